@@ -1,0 +1,4 @@
+pub mod Extent
+pub mod Images
+pub mod Frames
+pub mod Lent

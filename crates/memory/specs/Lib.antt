@@ -1,0 +1,5 @@
+pub mod Meaning
+pub mod Pages
+pub mod Words
+pub mod Lawful
+pub mod Lending
