@@ -1,0 +1,4 @@
+pub mod Arithmetic
+pub mod Conditions
+pub mod Forerunners
+pub mod Operations
