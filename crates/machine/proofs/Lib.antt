@@ -1,0 +1,12 @@
+pub mod Counted
+pub mod Lawful
+pub mod Waiting
+pub mod Performing
+pub mod Fitting
+pub mod Running
+pub mod Ways
+pub mod Stores
+pub mod Closing
+pub mod Promises
+pub mod Repeating
+pub mod Owing
