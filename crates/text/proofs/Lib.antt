@@ -1,0 +1,17 @@
+pub mod LongestRun
+pub mod Front
+pub mod Accepted
+pub mod Swap
+pub mod Safe
+pub mod Good
+pub mod Lengths
+pub mod Text
+pub mod Lawful
+pub mod InSize
+pub mod Records
+pub mod Valued
+pub mod Immediates
+pub mod Stand
+pub mod Targets
+pub mod Labels
+pub mod Agree

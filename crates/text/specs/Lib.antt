@@ -1,0 +1,11 @@
+pub mod Layout
+pub mod Image
+pub mod Origins
+pub mod Values
+pub mod Runs
+pub mod Answer
+pub mod Hazards
+pub mod Immediates
+pub mod Targets
+pub mod Sizes
+pub mod Examples
