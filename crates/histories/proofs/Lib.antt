@@ -1,0 +1,15 @@
+pub mod Watching
+pub mod Counting
+pub mod Kept
+pub mod Housed
+pub mod Bounded
+pub mod Words
+pub mod Reasons
+pub mod Homing
+pub mod Hazards
+pub mod Sides
+pub mod Agreement
+pub mod Own_words
+pub mod Service_words
+pub mod Always
+pub mod Loaded

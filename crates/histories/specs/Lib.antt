@@ -1,0 +1,3 @@
+pub mod Texts
+pub mod Histories
+pub mod Laws
