@@ -1,0 +1,4 @@
+pub mod Twins
+pub mod Stages
+pub mod Reports
+pub mod Laws
