@@ -1,85 +1,60 @@
-// The grammar of the console: a line read as a command.
-use crate::complaints::Complaint;
-use crate::names;
-use crate::numbers;
+// The commands of the console, by what they act on.
+use histories::Action;
 use isa::Instruction;
-use std::str::SplitWhitespace;
 
-// The largest buffer that the console makes.
-const MOST_BYTES: u32 = 0x10_0000;
+#[derive(Drop)]
+pub(crate) enum Command {
+    Word(WordCommand),
+    Memory(MemoryCommand),
+    Image(ImageCommand),
+    Core(CoreCommand),
+}
 
 #[derive(Clone, Copy)]
-pub(crate) enum Command {
+pub(crate) enum WordCommand {
     Read { word: u16 },
     Write { instruction: Instruction },
-    FlatMemory { size: u32 },
-    MappedMemory { size: u32, pages: [u16; 16] },
+}
+
+#[derive(Clone, Copy)]
+pub(crate) enum MemoryCommand {
+    Flat { size: u32 },
+    Mapped { size: u32, pages: [u16; 16] },
     Byte { address: u16 },
     Store { address: u16, value: u8 },
     Checksum,
 }
 
-fn size(words: &mut SplitWhitespace<'_>) -> Result<u32, Complaint> {
-    let size = numbers::number(words)?;
-    if size > MOST_BYTES {
-        return Err(Complaint::TooLarge);
-    }
-    Ok(size)
+#[derive(Drop)]
+pub(crate) enum ImageCommand {
+    Listing {
+        bytes: Vec<u8>,
+    },
+    More {
+        bytes: Vec<u8>,
+    },
+    Assemble {
+        size: u32,
+    },
+    Image {
+        bytes: Vec<u8>,
+    },
+    Dump,
+    Rehearse {
+        lo: u16,
+        hi: u16,
+        actions: Vec<Action>,
+    },
 }
 
-fn pages(words: &mut SplitWhitespace<'_>) -> Result<[u16; 16], Complaint> {
-    let mut pages = [0; 16];
-    for page in pages.iter_mut() {
-        *page = numbers::half(words)?;
-    }
-    Ok(pages)
-}
-
-fn memory(words: &mut SplitWhitespace<'_>) -> Result<Command, Complaint> {
-    match numbers::word(words)? {
-        "flat" => Ok(Command::FlatMemory { size: size(words)? }),
-        "mapped" => Ok(Command::MappedMemory {
-            size: size(words)?,
-            pages: pages(words)?,
-        }),
-        _ => Err(Complaint::UnknownName),
-    }
-}
-
-fn store(words: &mut SplitWhitespace<'_>) -> Result<Command, Complaint> {
-    let address = numbers::half(words)?;
-    let value = numbers::byte(words)?;
-    Ok(Command::Store { address, value })
-}
-
-fn command_of(name: &str, words: &mut SplitWhitespace<'_>) -> Result<Command, Complaint> {
-    match name {
-        "read" => Ok(Command::Read {
-            word: numbers::half(words)?,
-        }),
-        "write" => Ok(Command::Write {
-            instruction: names::instruction(words)?,
-        }),
-        "memory" => memory(words),
-        "byte" => Ok(Command::Byte {
-            address: numbers::half(words)?,
-        }),
-        "store" => store(words),
-        "checksum" => Ok(Command::Checksum),
-        _ => Err(Complaint::UnknownCommand),
-    }
-}
-
-// The command of a line; none where it is blank or a comment.
-pub(crate) fn parse(line: &str) -> Result<Option<Command>, Complaint> {
-    let mut words = line.split_whitespace();
-    let Some(name) = words.next() else {
-        return Ok(None);
-    };
-    if name.starts_with('#') {
-        return Ok(None);
-    }
-    let command = command_of(name, &mut words)?;
-    numbers::end(&mut words)?;
-    Ok(Some(command))
+#[derive(Clone, Copy)]
+pub(crate) enum CoreCommand {
+    Load { text: u16, lo: u16, hi: u16 },
+    Request,
+    Step,
+    Run { budget: u16 },
+    Counter,
+    Registers,
+    Register { number: u32 },
+    Owing,
 }

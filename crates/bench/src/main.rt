@@ -5,10 +5,10 @@ mod complaints;
 mod console;
 mod names;
 mod numbers;
+mod parsing;
 
 use answers::Answer;
 use answers::AnswerDisplay;
-use commands::Command;
 use complaints::Complaint;
 use complaints::ComplaintDisplay;
 use console::Console;
@@ -21,10 +21,27 @@ fn answer_to(console: &mut Console, line: &[u8]) -> Result<Option<Answer>, Compl
     let Ok(text) = std::str::from_utf8(line) else {
         return Err(Complaint::NotText);
     };
-    match commands::parse(text)? {
+    match parsing::parse(console.heap(), text)? {
         Some(command) => Ok(Some(console.obey(command)?)),
         None => Ok(None),
     }
+}
+
+// The image, sixteen bytes to a row, as words of two; an odd last byte stands alone.
+fn print_image(rt: &LibcRuntime, image: &[u8]) -> Result<(), AnyError> {
+    for (row, bytes) in image.chunks(16).enumerate() {
+        let address = row.saturating_mul(16);
+        print!(rt, "{address:04X}:")?;
+        for word in bytes.chunks(2) {
+            match word {
+                [high, low] => print!(rt, " {high:02X}{low:02X}")?,
+                [last] => print!(rt, " {last:02X}")?,
+                _ => {}
+            }
+        }
+        println!(rt, "")?;
+    }
+    Ok(())
 }
 
 fn respond(
@@ -34,17 +51,12 @@ fn respond(
     line: &[u8],
 ) -> Result<(), AnyError> {
     match answer_to(console, line) {
-        Ok(Some(answer)) => println!(rt, "{answer}")?,
-        Ok(None) => {}
-        Err(Complaint::Refused(refusal)) => println!(
-            rt,
-            "refused {} {}",
-            refusal.number(),
-            refusal.word()
-        )?,
-        Err(complaint) => println!(rt, "error line {number}: {complaint}")?,
+        Ok(None) => Ok(()),
+        Ok(Some(Answer::Image)) => print_image(rt, console.image()),
+        Ok(Some(answer)) => Ok(println!(rt, "{answer}")?),
+        Err(complaint) if complaint.is_refusal() => Ok(println!(rt, "{complaint}")?),
+        Err(complaint) => Ok(println!(rt, "error line {number}: {complaint}")?),
     }
-    Ok(())
 }
 
 fn run(rt: &LibcRuntime) -> Result<(), AnyError> {

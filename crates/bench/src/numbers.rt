@@ -1,5 +1,9 @@
 // The words of a line, read as numbers.
+ghost use Prim.Native.Nat.{_<_};
+ghost use Rattle.std.specs.Vec.{made};
 use crate::complaints::Complaint;
+use crate::complaints::ComplaintFromNoRoom;
+use std::alloc::Global;
 use std::str::SplitWhitespace;
 
 // The next word of the line.
@@ -43,13 +47,17 @@ fn digits(text: &str, radix: u32) -> Result<u32, Complaint> {
     Ok(value)
 }
 
-// The next word as a number: decimal, or hexadecimal after 0x.
-pub(crate) fn number(words: &mut SplitWhitespace<'_>) -> Result<u32, Complaint> {
-    let text = word(words)?;
+// A word as a number: decimal, or hexadecimal after 0x.
+pub(crate) fn number_of(text: &str) -> Result<u32, Complaint> {
     match text.strip_prefix("0x") {
         Some(hexadecimal) => digits(hexadecimal, 16),
         None => digits(text, 10),
     }
+}
+
+// The next word as a number.
+pub(crate) fn number(words: &mut SplitWhitespace<'_>) -> Result<u32, Complaint> {
+    number_of(word(words)?)
 }
 
 // The next word as a number below 65,536.
@@ -66,4 +74,29 @@ pub(crate) fn byte(words: &mut SplitWhitespace<'_>) -> Result<u8, Complaint> {
         Ok(value) => Ok(value),
         Err(_) => Err(Complaint::TooLarge),
     }
+}
+
+fn nibble(byte: u8) -> Result<u8, Complaint>
+    ensures { λ r. ⌜ made r (λ n. n < 16) ⌝ }
+{
+    match byte {
+        b'0'..=b'9' => Ok(byte - b'0'),
+        b'a'..=b'f' => Ok(byte - b'a' + 10),
+        b'A'..=b'F' => Ok(byte - b'A' + 10),
+        _ => Err(Complaint::BadBytes),
+    }
+}
+
+// The rest of the line as bytes: pairs of hexadecimal digits in any number of words.
+pub(crate) fn bytes(heap: Global, words: &mut SplitWhitespace<'_>) -> Result<Vec<u8>, Complaint> {
+    let mut bytes = Vec::new(heap);
+    for word in words {
+        for pair in word.as_bytes().chunks(2) {
+            let [high, low] = pair else {
+                return Err(Complaint::BadBytes);
+            };
+            bytes.push(nibble(*high)? * 16 + nibble(*low)?)?;
+        }
+    }
+    Ok(bytes)
 }
