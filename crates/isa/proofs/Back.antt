@@ -1,7 +1,7 @@
 -- Reading and writing are one another's inverse.
-use mathlib.Core.Path.{_≡_, refl, sym, _∙_, ap, subst}
-use mathlib.Core.Bool.{Bool, true, false, cond, _&&_}
-use Prim.Native.Nat.{ℕ, zero, suc, _+_, _*_, _/_, _%_, _<_, _≤_}
+use mathlib.Core.Path.{_≡_, refl, _∙_, ap}
+use mathlib.Core.Bool.{Bool, true, false, _&&_}
+use Prim.Native.Nat.{ℕ, zero, suc, _+_, _*_, _/_, _%_, _<_}
 use native.Mathlib.Omega.{arith}
 use lib.Dec.{eqb, ltb, lit<}
 use Rattle.std.proofs.shelf.Tests.{cond-both, ltb-true, ltb-false, eqb-true, false≢true}
@@ -20,8 +20,8 @@ use Rattle.isa.specs.declared.refusals.Refusal.{Refusal}
 use Rattle.isa.specs.declared.refusals.Refusal.the-variants.{Field, Unknown}
 use Rattle.isa.specs.Refusals.{refusal-number}
 use Rattle.isa.proofs.Numbers.{same-number}
-use Rattle.isa.specs.Words.{read-word, read-fields, write-word, packed, packed-low, of-part, register-function, register-number, immediate-function, immediate-number, branch-condition, condition-number}
-use Rattle.isa.specs.Laws.{InSize, ReadsBack, WritesBack}
+use Rattle.isa.specs.Words.{read-word, read-fields, write-word, packed, of-part, register-function, register-number, immediate-function, immediate-number, branch-condition, condition-number}
+use Rattle.isa.specs.Laws.{ReadsBack, WritesBack}
 
 -- a word's reading is written as that word, or is unknown: as a test, which antt computes at every word
 is : Result ℕ Refusal → ℕ → Bool

@@ -1,6 +1,6 @@
 -- No two refusals have one number.
 use mathlib.Core.Path.{_≡_, refl, sym, _∙_, ap}
-use Prim.Native.Nat.{ℕ, _-_}
+use Prim.Native.Nat.{_-_}
 use lib.ListN.{getD}
 use Rattle.isa.specs.declared.refusals.Refusal.{Refusal}
 use Rattle.isa.specs.declared.refusals.Refusal.the-variants.{Ragged, Long, Operation, Field, Constant, Misplaced, Twice, Parted, Big, Missing, Value, Reach, Short, Plan, Closed, Busy, Astray, Unknown, Reserved, Hazard, Bare, Count, Odd, Io, Trespass, Unkept, Register, Page}

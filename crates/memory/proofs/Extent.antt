@@ -1,6 +1,5 @@
 -- Meanings and loans that agree everywhere are equal.
 use Prim.Native.Nat.{ℕ}
-use mathlib.Core.List.{List}
 use mathlib.Core.Path.{_≡_}
 use Rattle.memory.specs.Meaning.{Loan, Meaning}
 

@@ -1,14 +1,13 @@
 -- A store through a page table stays within the frames that it names.
-use Prim.Native.Nat.{ℕ, zero, suc, _+_, _*_, _/_, _%_, _<_, _≤_}
-use mathlib.Core.Path.{_≡_, refl, sym, _∙_, ap}
-use mathlib.Core.Bool.{Bool, true, false, cond, _||_}
-use mathlib.Core.Logic.{inl, inr, _≢_}
+use Prim.Native.Nat.{ℕ, zero, suc, _/_, _<_}
+use mathlib.Core.Path.{_≡_, _∙_, ap}
+use mathlib.Core.Bool.{true, cond}
+use mathlib.Core.Logic.{inl, inr}
 use mathlib.Core.List.{List}
 use native.Mathlib.Omega.{arith}
-use lib.Dec.{eqb, ltb}
-use lib.ListN.{getD, length, set}
+use lib.ListN.{getD, set}
 use lib.Seq.{getD-set-other}
-use Rattle.std.proofs.shelf.Tests.{cases-eq, cases-lt}
+use Rattle.std.proofs.shelf.Tests.{cases-eq}
 use Rattle.std.proofs.shelf.Ways.{tells}
 use Rattle.memory.specs.Pages.{frame, named, named-below, place, word-of}
 

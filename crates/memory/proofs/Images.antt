@@ -1,15 +1,13 @@
 -- Storing an image byte by byte.
-use Prim.Native.Nat.{ℕ, suc, _+_, _<_, _≤_}
-use mathlib.Core.Path.{_≡_, refl, sym, _∙_, ap}
-use mathlib.Core.Bool.{Bool, true, false, cond, _&&_}
+use Prim.Native.Nat.{ℕ, _<_, _≤_}
+use mathlib.Core.Path.{_≡_, refl}
+use mathlib.Core.Bool.{false}
 use mathlib.Core.Logic.{inl, inr}
 use mathlib.Core.List.{List}
 use native.Mathlib.Omega.{arith}
-use lib.Dec.{eqb, ltb}
-use lib.ListN.{getD, length}
-use Rattle.std.proofs.shelf.Tests.{cases-lt, lt-ltb, le-ltb}
+use Rattle.std.proofs.shelf.Tests.{cases-lt, lt-ltb}
 use Rattle.std.proofs.shelf.Ways.{tells}
-use Rattle.memory.specs.Meaning.{Lawful, Meaning, stored}
+use Rattle.memory.specs.Meaning.{Lawful, Meaning}
 use Rattle.memory.specs.Words.{stored-first}
 use Rattle.memory.proofs.Extent.{meaning-ext}
 

@@ -1,16 +1,16 @@
 -- What the owner of a lent buffer knows of its bytes, from the meaning and the loan after.
-use Prim.Native.Nat.{ℕ, _/_, _%_, _<_, _≤_}
-use mathlib.Core.Path.{_≡_, refl, sym, _∙_, ap, subst}
-use mathlib.Core.Bool.{Bool, true, false, cond, _&&_}
+use Prim.Native.Nat.{ℕ, _<_}
+use mathlib.Core.Path.{_≡_, sym, _∙_, ap}
+use mathlib.Core.Bool.{Bool, true, false, _&&_}
 use mathlib.Core.Logic.{inl, inr}
 use mathlib.Core.List.{List}
 use native.Mathlib.Omega.{arith}
-use lib.Dec.{eqb, leb, ltb}
+use lib.Dec.{ltb}
 use lib.ListN.{getD, length}
 use Rattle.std.proofs.shelf.Tests.{cases-lt, lt-ltb, le-ltb}
 use Rattle.std.proofs.shelf.Ways.{tells}
 use Rattle.memory.specs.Meaning.{flat, flat-loan, held}
-use Rattle.memory.specs.Pages.{mapped, mapped-loan, named, place, word-of}
+use Rattle.memory.specs.Pages.{mapped, mapped-loan, place}
 use Rattle.memory.specs.Words.{stored-image}
 use Rattle.memory.specs.Lending.{FlatBytes, MappedBytes}
 
