@@ -1,6 +1,6 @@
 -- From the assembler's and the loader's answers to two newly loaded cores.
 use Prim.Native.Nat.{ℕ, _-_, _/_}
-use mathlib.Core.Path.{_≡_, refl, sym, _∙_, ap, subst}
+use mathlib.Core.Path.{_≡_, sym, _∙_, ap, subst}
 use mathlib.Core.Bool.{cond}
 use mathlib.Core.List.{List, _++_}
 use native.Mathlib.Omega.{arith}
@@ -10,7 +10,7 @@ use Rattle.std.specs.Results.{isOk}
 use Rattle.std.specs.declared.option.Option.{Option}
 use Rattle.std.specs.declared.option.Option.the-variants.{Some, None}
 use Rattle.std.specs.declared.result.Result.{Result}
-use Rattle.std.specs.declared.result.Result.the-variants.{Ok, Err}
+use Rattle.std.specs.declared.result.Result.the-variants.{Ok}
 use Rattle.isa.specs.declared.refusals.Refusal.{Refusal}
 use Rattle.memory.specs.Meaning.{Meaning}
 use Rattle.machine.specs.declared.states.State.{State}
@@ -28,26 +28,31 @@ unrefused : (f : Option Refused) (a b : Answers) → Ok a ≡ or-refused f b →
 unrefused (Some e) a b h = let z : _≡_ {A = ℕ} 0 1 = cc in absurd (omega arith)
 unrefused None a b h = cc
 
--- a listing that is accepted has the defined answers
-pub accepted-answers : (l : List ℕ) (room : ℕ) (a : Answers) → Ok a ≡ assembled l room → a ≡ answers l
-accepted-answers l room a h = unrefused (failure l room) a (answers l) h
+-- what the buffer of an accepted listing holds: the defined answers, the image in front, and past it what was there
+pub record Written (l before after : List ℕ) (a : Answers) : Type 0 where
+  pub same : a ≡ answers l
+  pub accepted : assembled l (length before) ≡ Ok (answers l)
+  pub front : take (a .image - 0) after ≡ image l
+  pub buffer : after ≡ buffer-after l before
 
--- the front of the buffer is the image
-pub image-front : (l rest buffer : List ℕ) (n : ℕ) → buffer ≡ image l ++ rest → n ≡ length (image l) → take (n - 0) buffer ≡ image l
-image-front l rest buffer n e h =
-    let k : n - 0 ≡ length (image l) = omega (arith, h) in
-    ap (λ j. take j buffer) k ∙ ap (take (length (image l))) e ∙ take-append-seam (image l) rest
+pub written-so : (l before after : List ℕ) (a : Answers) → Ok a ≡ assembled l (length before)
+    → after ≡ image l ++ drop (length (image l)) before → a .image ≡ length (image l) → Written l before after a
+written-so l before after a value bytes size =
+    let same = unrefused (failure l (length before)) a (answers l) value in
+    let end : a .image - 0 ≡ length (image l) = omega (arith, size) in
+    record {
+      same = same;
+      accepted = sym value ∙ ap Ok same;
+      front = ap (λ k. take k after) end ∙ ap (take (length (image l))) bytes ∙ take-append-seam (image l) (drop (length (image l)) before);
+      buffer = bytes ∙ ap (λ r. cond (isOk r) (image l ++ drop (length (image l)) before) before) value;
+    }
 
--- a load of that front is a load of the image
-pub loads-image : (l slice : List ℕ) (a : Answers) (lo hi : ℕ) (s : State) (m : Meaning) (r : Result Unit Refusal) (t : State) (u : Meaning)
-    → a ≡ answers l → slice ≡ image l → Loads (layout (a .text) lo hi) slice s m r t u → Loads (layout-of l lo hi) (image l) s m r t u
-loads-image l slice a lo hi s m r t u e h loads =
-    subst (λ (b : Answers). Loads (layout (b .text) lo hi) (image l) s m r t u) e (subst (λ (xs : List ℕ). Loads (layout (a .text) lo hi) xs s m r t u) h loads)
-
--- the buffer holds the image, and past it what was there
-pub buffer-kept : (l before after : List ℕ) (a : Answers) → Ok a ≡ assembled l (length before) → after ≡ image l ++ drop (length (image l)) before
-    → after ≡ buffer-after l before
-buffer-kept l before after a e h = h ∙ ap (λ r. cond (isOk r) (image l ++ drop (length (image l)) before) before) e
+-- a load of the front of that buffer is a load of the image
+pub loads-image : (l before after : List ℕ) (a : Answers) (lo hi : ℕ) (s : State) (m : Meaning) (r : Result Unit Refusal) (t : State) (u : Meaning)
+    → Written l before after a → Loads (layout (a .text) lo hi) (take (a .image - 0) after) s m r t u → Loads (layout-of l lo hi) (image l) s m r t u
+loads-image l before after a lo hi s m r t u written loads =
+    subst (λ (b : Answers). Loads (layout (b .text) lo hi) (image l) s m r t u) (written .same)
+    (subst (λ (xs : List ℕ). Loads (layout (a .text) lo hi) xs s m r t u) (written .front) loads)
 
 -- what the assembler promises, of the defined answers
 pub accepted-so : (l : List ℕ) (a : Answers) → a ≡ answers l → NoHazard l → Longest (image l) (a .text / 2) (a .run) → SizesAgree l a → Accepted l

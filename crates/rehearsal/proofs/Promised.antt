@@ -1,25 +1,21 @@
 -- The promises of a rehearsal, from the laws of histories.
 use Prim.Native.Nat.{ℕ, _+_, _≤_, max}
-use mathlib.Core.Path.{_≡_, refl, sym, _∙_, ap, subst}
-use mathlib.Core.Bool.{Bool, true, false, _&&_}
+use mathlib.Core.Path.{_≡_, sym, _∙_, ap, subst}
 use mathlib.Core.List.{List}
 use native.Mathlib.Nat.{zero-add}
 use native.Mathlib.Omega.{arith}
 use lib.ListN.{length}
-use Rattle.std.specs.declared.result.Result.{Result}
-use Rattle.std.specs.declared.result.Result.the-variants.{Ok, Err}
+use Rattle.std.specs.declared.result.Result.the-variants.{Ok}
 use Rattle.memory.specs.Meaning.{Meaning}
-use Rattle.machine.specs.declared.answers.Step.{Step}
-use Rattle.machine.specs.declared.answers.StepRefusal.{StepRefusal}
 use Rattle.machine.specs.declared.states.Service.the-variants as service
 use Rattle.machine.specs.declared.states.State.{State}
 use Rattle.machine.specs.Laws.{Standing}
-use Rattle.machine.specs.Loads.{fresh}
-use Rattle.machine.specs.Steps.{stepped, memory-of}
+use Rattle.machine.specs.Loads.{fresh, loading}
+use Rattle.machine.specs.Steps.{stepped}
 use Rattle.text.specs.Answer.{answers}
 use Rattle.text.specs.Image.{image}
 use Rattle.histories.specs.declared.actions.Action.{Action}
-use Rattle.histories.specs.Histories.{history, played, tally-of}
+use Rattle.histories.specs.Histories.{played, tally-of}
 use Rattle.histories.specs.Laws.{Alone, OwnStep, SameProgram, Undisturbed, WaitsWithin}
 use Rattle.histories.proofs.Always.{requests-leave-no-mark}
 use Rattle.histories.proofs.Bounded.{waits-are-bounded}
@@ -30,9 +26,10 @@ use Rattle.rehearsal.specs.declared.reports.Program.the-variants as program
 use Rattle.rehearsal.specs.declared.reports.Report.{Report}
 use Rattle.rehearsal.specs.declared.reports.Totals.{Totals}
 use Rattle.rehearsal.specs.Laws.{events, Promises, Unmarked}
-use Rattle.rehearsal.specs.Reports.{Accepted, Compared, layout-of, loaded, opening, Reported, stage, stage-of, standing}
+use Rattle.rehearsal.specs.Reports.{Accepted, Compared, layout-of, loaded, opening, Reported, stage}
 use Rattle.rehearsal.specs.Stages.{Stage, added, nothing, rehearsed}
-use Rattle.rehearsal.proofs.Images.{Loadable, loadable, program-calm, runs-within}
+use Rattle.rehearsal.proofs.Images.{program-calm, runs-within}
+use Rattle.histories.proofs.Loaded.{loaded-fits}
 use Rattle.rehearsal.proofs.Staged.{led, rehearsed-led}
 use Rattle.rehearsal.proofs.Twinned.{alone-all-own, alone-repeated}
 
@@ -75,8 +72,9 @@ unmarked-so l lo hi m n actions r m′ n′ reported t c alone beside =
 
 -- the promises of a rehearsal that was reported
 pub promised : (l : List ℕ) (lo hi : ℕ) (m n : Meaning) (actions : List Action) (r : Report) (m′ n′ : Meaning)
-    → Accepted l → Loadable (layout-of l lo hi) (image l) m → Reported l lo hi m n actions r m′ n′ → Promises l lo hi m n actions r
-promised l lo hi m n actions r m′ n′ accepted load reported =
+    → Accepted l → loading (layout-of l lo hi) (image l) m ≡ Ok tt → Reported l lo hi m n actions r m′ n′ → Promises l lo hi m n actions r
+promised l lo hi m n actions r m′ n′ accepted ok reported =
+    let fit = loaded-fits (layout-of l lo hi) (image l) m ok in
     let start = fresh (layout-of l lo hi) in
     let q = played (m .mark) start (loaded l m .byte) actions in
     let g = stage l lo hi m n actions in
@@ -85,15 +83,15 @@ promised l lo hi m n actions r m′ n′ accepted load reported =
     let counted : r .totals ≡ added nothing (tally-of (events l lo hi m actions)) =
     totals ∙ ap (added nothing) (steps-are-counted (m .mark) start (loaded l m .byte) actions) in
     let waits : WaitsWithin (answers l .run + 1) (events l lo hi m actions) =
-    waits-are-bounded (answers l .run) (layout-of l lo hi) (length (image l)) (load .fits) (loaded l m) (runs-within l lo hi m accepted load) actions in
+    waits-are-bounded (answers l .run) (layout-of l lo hi) (length (image l)) fit (loaded l m) (runs-within l lo hi m accepted ok) actions in
     let longest : tally-of (events l lo hi m actions) .wait ≤ answers l .run + 1 = longest-within (answers l .run + 1) (events l lo hi m actions) waits in
     let limit : r .limit ≡ answers l .run + 1 = reported .limit in
     let wait : r .totals .wait ≡ max 0 (tally-of (events l lo hi m actions) .wait) = ap (λ (x : Totals). x .wait) counted in
     record {
       unmarked = λ alike plain.
-          let law = requests-leave-no-mark (layout-of l lo hi) (length (image l)) (load .fits) (loaded l m) (loaded l n) alike plain actions in
+          let law = requests-leave-no-mark (layout-of l lo hi) (length (image l)) fit (loaded l m) (loaded l n) alike plain actions in
           unmarked-so l lo hi m n actions r m′ n′ reported (law .0) (law .1) (law .2) (law .3);
       bounded = (omega arith, subst (λ (k : ℕ). WaitsWithin k (events l lo hi m actions)) (sym limit) waits);
-      careful = λ clean. hazards-follow-jumps (layout-of l lo hi) (length (image l)) (load .fits) (loaded l m) (program-calm l lo hi m accepted load clean) actions;
+      careful = λ clean. hazards-follow-jumps (layout-of l lo hi) (length (image l)) fit (loaded l m) (program-calm l lo hi m accepted ok clean) actions;
       counted = counted;
     }

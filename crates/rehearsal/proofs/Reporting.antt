@@ -1,17 +1,13 @@
 -- From the contracts of the calls to the report.
 use Prim.Native.Nat.{ℕ, _+_}
-use mathlib.Core.Path.{_≡_, refl, sym, _∙_, ap, subst}
+use mathlib.Core.Path.{_≡_, sym, _∙_, ap, subst}
 use mathlib.Core.Bool.{Bool, true}
 use mathlib.Core.List.{List}
-use Rattle.std.specs.declared.result.Result.{Result}
 use Rattle.memory.specs.Meaning.{Meaning}
-use Rattle.machine.specs.declared.answers.Step.{Step}
-use Rattle.machine.specs.declared.answers.StepRefusal.{StepRefusal}
 use Rattle.machine.specs.declared.states.State.{State}
 use Rattle.machine.specs.Laws.{Standing}
 use Rattle.machine.specs.Loads.{fresh}
 use Rattle.machine.specs.Steps.{stepped, memory-of}
-use Rattle.text.specs.declared.outcomes.Answers.{Answers}
 use Rattle.text.specs.Answer.{answers}
 use Rattle.histories.specs.declared.actions.Action.{Action}
 use Rattle.rehearsal.specs.declared.reports.Report.{Report}

@@ -3,7 +3,7 @@ use Prim.Native.Nat.{ℕ, _+_, _<_, max}
 use mathlib.Core.Path.{_≡_, refl, sym, _∙_, ap}
 use mathlib.Core.Bool.{Bool, true, false, _&&_}
 use mathlib.Core.List.{List, [], _∷_}
-use native.Mathlib.Nat.{zero-add, add-zero, add-assoc, max-zero}
+use native.Mathlib.Nat.{add-zero, add-assoc, max-zero}
 use native.Mathlib.Numerals.{add-one}
 use native.Mathlib.Omega.{arith}
 use lib.ListN.{drop, getD, length}
@@ -13,7 +13,7 @@ use Rattle.machine.specs.declared.answers.Tally.{Tally}
 use Rattle.machine.specs.declared.states.State.{State}
 use Rattle.machine.specs.Runs.{no-steps}
 use Rattle.machine.specs.Steps.{memory-of}
-use Rattle.machine.specs.Laws.{Standing, repeated}
+use Rattle.machine.specs.Laws.{repeated}
 use Rattle.histories.specs.declared.actions.Action.{Action}
 use Rattle.histories.specs.declared.actions.Action.the-variants as action
 use Rattle.histories.specs.Histories.{acted, played, joined, Acts}
@@ -21,7 +21,7 @@ use Rattle.rehearsal.specs.declared.reports.Totals.{Totals}
 use Rattle.rehearsal.specs.Twins.{all-own}
 use Rattle.rehearsal.specs.Stages.{Stage, added, staged, rehearsed}
 use Rattle.rehearsal.specs.Reports.{stage-of}
-use Rattle.rehearsal.proofs.Twinned.{repeated-then, all-own-then}
+use Rattle.rehearsal.proofs.Twinned.{all-own-then, and-assoc, repeated-then}
 
 max-assoc : (x y z : ℕ) → max (max x y) z ≡ max x (max y z)
 max-assoc x y z = omega arith
@@ -42,10 +42,6 @@ added-none t i = record { own = add-zero (t .own) i; service = add-zero (t .serv
 and-true : (x : Bool) → x && true ≡ x
 and-true true = refl
 and-true false = refl
-
-and-assoc : (x y z : Bool) → (x && y) && z ≡ x && (y && z)
-and-assoc true y z = refl
-and-assoc false y z = refl
 
 -- the stage that a list leads to
 abbrev pub led : (ℕ → Bool) → (ℕ → Bool) → Stage → List Action → Stage

@@ -1,18 +1,15 @@
 -- Single steps made in two parts, and steps that are all own steps.
 use Prim.Native.Nat.{ℕ, zero, suc, _+_}
-use mathlib.Core.Path.{_≡_, refl, sym, _∙_, ap, subst}
+use mathlib.Core.Path.{_≡_, refl, sym, _∙_, ap}
 use mathlib.Core.Bool.{Bool, true, false, _&&_}
 use native.Mathlib.Nat.{zero-add, suc-add}
 use Rattle.std.specs.declared.result.Result.{Result}
-use Rattle.std.specs.declared.result.Result.the-variants.{Ok, Err}
-use Rattle.machine.specs.declared.answers.Step.the-variants as step
-use Rattle.machine.specs.declared.states.Side.the-variants as side
 use Rattle.machine.specs.declared.answers.Step.{Step}
 use Rattle.machine.specs.declared.answers.StepRefusal.{StepRefusal}
 use Rattle.machine.specs.declared.states.State.{State}
 use Rattle.memory.specs.Meaning.{Meaning}
 use Rattle.machine.specs.Steps.{stepped, Steps}
-use Rattle.machine.specs.Laws.{Standing, repeated}
+use Rattle.machine.specs.Laws.{repeated}
 use Rattle.histories.specs.Laws.{Alone, none, more}
 use Rattle.rehearsal.specs.Twins.{made-own, all-own}
 
@@ -22,7 +19,8 @@ pub repeated-then : (m n : ℕ) (s : State) (b : ℕ → ℕ) (o : ℕ → Bool)
 repeated-then zero n s b o = ap (λ k. repeated k s b o) (zero-add n)
 repeated-then (suc m) n s b o = ap (λ k. repeated k s b o) (suc-add m n) ∙ repeated-then m n (stepped s b o .state) (stepped s b o .bytes) o
 
-and-assoc : (x y z : Bool) → (x && y) && z ≡ x && (y && z)
+-- tests are joined in any grouping
+pub and-assoc : (x y z : Bool) → (x && y) && z ≡ x && (y && z)
 and-assoc true y z = refl
 and-assoc false y z = refl
 

@@ -1,13 +1,12 @@
 -- What a rehearsal reports, and what it leaves.
 use Prim.Native.Nat.{ℕ, _+_, _/_}
 use mathlib.Core.Path.{_≡_}
-use mathlib.Core.Bool.{Bool, true, false, cond}
+use mathlib.Core.Bool.{Bool, true, cond}
 use mathlib.Core.List.{List, _++_}
 use lib.ListN.{length, drop}
 use Rattle.std.specs.Results.{isOk}
 use Rattle.std.specs.declared.result.Result.{Result}
 use Rattle.std.specs.declared.result.Result.the-variants.{Ok, Err}
-use Rattle.isa.specs.declared.refusals.Refusal.{Refusal}
 use Rattle.memory.specs.Meaning.{Meaning}
 use Rattle.memory.specs.Words.{stored-image}
 use Rattle.machine.specs.declared.states.Layout.{Layout}
@@ -17,7 +16,6 @@ use Rattle.machine.specs.Steps.{stepped, memory-of}
 use Rattle.machine.specs.Loads.{fresh, layout, loading}
 use Rattle.machine.specs.Laws.{Standing}
 use Rattle.text.specs.declared.outcomes.Answers.{Answers}
-use Rattle.text.specs.declared.outcomes.Refused.{Refused}
 use Rattle.text.specs.Answer.{assembled, answers}
 use Rattle.text.specs.Hazards.{NoHazard}
 use Rattle.text.specs.Image.{image}

@@ -1,10 +1,9 @@
 use Prim.Native.Nat.{_+_}
-use mathlib.Core.Path.{_≡_, refl, sym, _∙_, ap}
+use mathlib.Core.Path.{_∙_, ap}
 use Rattle.memory.specs.Meaning.{Meaning}
 use Rattle.text.specs.declared.outcomes.Answers.{Answers}
 use Rattle.text.specs.Image.{image}
-use Rattle.rehearsal.specs.Reports.{layout-of, Reported, stage-of}
-use Rattle.rehearsal.proofs.Images.{loadable}
+use Rattle.rehearsal.specs.Reports.{Reported, stage-of}
 use Rattle.rehearsal.proofs.Promised.{promised}
 use Rattle.rehearsal.proofs.Reporting.{reported-so, staged-list}
 use Rattle.rehearsal.proofs.rehearsing.rehearse.Needs as need
@@ -40,7 +39,7 @@ returns g c =
     record {
       image = ready .image;
       outcome = (out .1, out .2, out .3, reported);
-      promises = promised l lo hi m n actions (c .finish .result) m₃ n₃ (ready .facts) (loadable (layout-of l lo hi) (image l) m (out .2)) reported;
+      promises = promised l lo hi m n actions (c .finish .result) m₃ n₃ (ready .facts) (out .2) reported;
       lent = done .lent ∙ played .lent ∙ ready .lent;
       twin-lent = done .twin-lent ∙ played .twin-lent ∙ ready .twin-lent;
     }
