@@ -8,7 +8,8 @@ use Rattle.listing.specs.declared.records.Record.{Record}
 use Rattle.listing.specs.Packing.{write_record}
 use Rattle.text.specs.declared.outcomes.Refused.{Refused}
 use Rattle.text.specs.declared.outcomes.Answers.{Answers}
-use Rattle.text.specs.Image.{word_bytes, image}
+use Rattle.text.specs.Image.{image}
+use Rattle.text.specs.Examples.{bytes_of_words, equal}
 use Rattle.text.specs.Answer.{assembled}
 use Rattle.machine.specs.declared.answers.Tally.{Tally}
 use Rattle.machine.specs.declared.states.Layout.{Layout}
@@ -24,13 +25,6 @@ pub data Example : Type 0 where
   makes : List Record → List ℕ → ℕ → ℕ → Example
   plays : List Record → List Action → Tally → ℕ → ℕ → Example
 
--- two lists of numbers are equal
-abbrev pub equal : List ℕ → List ℕ → Bool
-equal [] [] = true
-equal [] (y ∷ ys) = false
-equal (x ∷ xs) [] = false
-equal (x ∷ xs) (y ∷ ys) = x == y && equal xs ys
-
 -- two tallies are equal
 abbrev pub equal_tallies : Tally → Tally → Bool
 equal_tallies t u = t.own == u.own && (t.service == u.service && (t.takings == u.takings && t.wait == u.wait))
@@ -39,11 +33,6 @@ equal_tallies t u = t.own == u.own && (t.service == u.service && (t.takings == u
 abbrev pub listing_of : List Record → List ℕ
 listing_of [] = []
 listing_of (r ∷ rs) = unwrap_or (result_ok (write_record r)) [] ++ listing_of rs
-
--- the bytes of words
-abbrev pub bytes_of_words : List ℕ → List ℕ
-bytes_of_words [] = []
-bytes_of_words (w ∷ ws) = word_bytes w ++ bytes_of_words ws
 
 -- a record was written as these bytes
 abbrev pub written_so : Result (List ℕ) Refusal → List ℕ → Bool

@@ -1,4 +1,6 @@
 // The worked examples, computed from the definitions that the contracts cite.
+#![tactic(auto)]
+
 ghost use Rattle.std.specs.Prelude.{◌≡◌, true, length};
 ghost use Rattle.examples.specs.Examples.{all_hold};
 ghost use Rattle.examples.specs.Table.{examples};

@@ -8,3 +8,4 @@ pub mod Hazards
 pub mod Immediates
 pub mod Targets
 pub mod Sizes
+pub mod Examples

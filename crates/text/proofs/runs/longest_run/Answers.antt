@@ -12,7 +12,7 @@ pub loop-k-preserved : goal.loop-k-preserved
 unfolding current longest
 loop-k-preserved c =
     let inv = c.loop-k.invariant in
-    let now' = c.lengthened-run.ensures.value ∙ (λ j. cond (reads_interlocked (c.word-at.ensures j)) (inv.0 j + 1) 0) in
+    let now' = c.lengthened-run.ensures.value ∙ (λ j. cond (reads_interlocked (c.word_at.ensures j)) (inv.0 j + 1) 0) in
     let top : c.max-top.result ≡ max c.loop-k.top c.lengthened-run.result = search rules in
     rw add-one (now', top ∙ (λ j. max (inv.1 j) (now' j)), omega arith)
 
