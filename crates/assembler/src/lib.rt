@@ -1,4 +1,6 @@
 // The assembler: from a listing of eight-byte records to an image.
+#![tactic(auto)]
+
 mod assembling;
 mod checking;
 mod laying;

@@ -74,7 +74,7 @@ fn alignment_gap(place: Place, r: Record) -> usize
 
 // Bytes that are no words of a record.
 fn unmended(size: usize) -> Measure
-    ensures* { λ m. ⌜ m ≡ record { mend = Keep; size = size; result = 0; parted = false } ⌝ }
+    ensures { result ≡ record { mend = Keep; size = size; result = 0; parted = false } }
 {
     Measure {
         mend: Mend::Keep,

@@ -144,7 +144,7 @@ fn show_assembled<W: fmt::Write>(answers: Answers, f: &mut fmt::Formatter<W>) ->
     write!(f, "assembled text {text} image {image} run {run}")
 }
 
-pub(crate) impl fmt::Display for Answer as AnswerDisplay {
+impl fmt::Display for Answer {
     fn fmt<W: fmt::Write>(&self, f: &mut fmt::Formatter<W>) -> fmt::Result {
         match *self {
             Answer::Instruction(instruction) => show_instruction(instruction, f),

@@ -64,7 +64,7 @@ fn show_record_refusal<W: fmt::Write>(refused: Refused, f: &mut fmt::Formatter<W
     write!(f, " record {index}")
 }
 
-pub(crate) impl fmt::Display for Complaint as ComplaintDisplay {
+impl fmt::Display for Complaint {
     fn fmt<W: fmt::Write>(&self, f: &mut fmt::Formatter<W>) -> fmt::Result {
         match *self {
             Complaint::NotText => write!(f, "not text"),
@@ -83,31 +83,31 @@ pub(crate) impl fmt::Display for Complaint as ComplaintDisplay {
     }
 }
 
-pub(crate) impl From<Refusal> for Complaint as ComplaintFromRefusal {
+impl From<Refusal> for Complaint {
     fn from(refusal: Refusal) -> Complaint {
         Complaint::Refused(refusal)
     }
 }
 
-pub(crate) impl From<Refused> for Complaint as ComplaintFromRefused {
+impl From<Refused> for Complaint {
     fn from(refused: Refused) -> Complaint {
         Complaint::RefusedRecord(refused)
     }
 }
 
-pub(crate) impl From<StepRefusal> for Complaint as ComplaintFromStepRefusal {
+impl From<StepRefusal> for Complaint {
     fn from(refused: StepRefusal) -> Complaint {
         Complaint::RefusedStep(refused)
     }
 }
 
-pub(crate) impl From<AllocError> for Complaint as ComplaintFromAllocError {
+impl From<AllocError> for Complaint {
     fn from(_error: AllocError) -> Complaint {
         Complaint::NoMemory
     }
 }
 
-pub(crate) impl From<Obstacle> for Complaint as ComplaintFromObstacle {
+impl From<Obstacle> for Complaint {
     fn from(obstacle: Obstacle) -> Complaint {
         match obstacle {
             Obstacle::Assembly(refused) => Complaint::RefusedRecord(refused),
@@ -118,7 +118,7 @@ pub(crate) impl From<Obstacle> for Complaint as ComplaintFromObstacle {
     }
 }
 
-pub(crate) impl<T: Drop> From<NoRoom<T>> for Complaint as ComplaintFromNoRoom {
+impl<T: Drop> From<NoRoom<T>> for Complaint {
     fn from(_value: NoRoom<T>) -> Complaint {
         Complaint::NoMemory
     }

@@ -1,15 +1,12 @@
 // The state of the console, and what each command does to it.
 use crate::answers::Answer;
 use crate::commands::{Command, CoreCommand, ImageCommand, MemoryCommand, WordCommand};
-use crate::complaints::{
-    Complaint, ComplaintFromAllocError, ComplaintFromObstacle, ComplaintFromRefusal,
-    ComplaintFromRefused, ComplaintFromStepRefusal,
-};
+use crate::complaints::Complaint;
 use assembler::assemble;
 use histories::Action;
 use isa::Refusal;
 use machine::Core;
-use memory::{FlatIsMemory, FlatMemory, MappedIsMemory, MappedMemory, Memory, PageTable, agree};
+use memory::{FlatMemory, MappedMemory, Memory, PageTable, agree};
 use rehearsal::{Obstacle, Report, rehearse};
 use std::alloc::{AllocError, Global};
 

@@ -1,4 +1,6 @@
 // The console of the bench: commands from standard input, one to a line, and their answers.
+#![tactic(auto)]
+
 mod answers;
 mod commands;
 mod complaints;
@@ -7,9 +9,8 @@ mod names;
 mod numbers;
 mod parsing;
 
-use answers::{Answer, AnswerDisplay};
-use anyhow::impls::*;
-use complaints::{Complaint, ComplaintDisplay};
+use answers::Answer;
+use complaints::Complaint;
 use console::Console;
 use std::io::{BufRead, BufReader};
 

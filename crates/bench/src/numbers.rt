@@ -1,7 +1,7 @@
 // The words of a line, read as numbers.
 ghost use Rattle.std.specs.Prelude.{◌<◌, IfOk};
 
-use crate::complaints::{Complaint, ComplaintFromNoRoom};
+use crate::complaints::Complaint;
 use std::alloc::Global;
 use std::str::SplitWhitespace;
 

@@ -1,6 +1,6 @@
 // The grammar of the console: a line read as a command.
 use crate::commands::{Command, CoreCommand, ImageCommand, MemoryCommand, WordCommand};
-use crate::complaints::{Complaint, ComplaintFromNoRoom};
+use crate::complaints::Complaint;
 use crate::{names, numbers};
 use histories::Action;
 use std::alloc::Global;

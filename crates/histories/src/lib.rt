@@ -1,4 +1,6 @@
 // Lists of actions on a core, their histories, and what holds of every one.
+#![tactic(auto)]
+
 mod acting;
 mod actions;
 mod laws;

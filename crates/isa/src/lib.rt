@@ -1,5 +1,7 @@
 // The xr16 instruction word: what a word reads as, which word an instruction is written as, and what
 // the assembler and the core both ask of an instruction. Also the refusals that every call answers with.
+#![tactic(auto)]
+
 mod immediates;
 mod instructions;
 mod laws;

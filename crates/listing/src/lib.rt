@@ -1,4 +1,6 @@
 // A listing's records: what they say, what they may say, and which words they make.
+#![tactic(auto)]
+
 mod items;
 mod lasts;
 mod meaning;

@@ -37,16 +37,16 @@ fn is_carrying(s: Slot) -> bool
     }
 }
 
-fn is_clash(res: u8, s: Slot) -> bool
-    ensures { result ≡ clash res s }
+fn is_clash(before: u8, s: Slot) -> bool
+    ensures { result ≡ clash before s }
 {
-    res > 0 && late_in(s) == res
+    before > 0 && late_in(s) == before
 }
 
-fn mend_for(res: u8, s: Slot) -> Mend
-    ensures { result ≡ mend_of res s }
+fn mend_for(before: u8, s: Slot) -> Mend
+    ensures { result ≡ mend_of before s }
 {
-    if is_clash(res, s) {
+    if is_clash(before, s) {
         match swap_of(s) {
             Some(i) => Mend::Swap(i),
             None => Mend::Nop,
@@ -70,18 +70,18 @@ fn mended_len(mend: Mend, b: Body, r: Record) -> usize
 
 impl Body {
     // The words that the record makes after a word with that result, in outline.
-    pub fn outline(self, r: Record, res: u8) -> Outline
-        ensures value { result ≡ spec.outline res self r }
+    pub fn outline(self, r: Record, before: u8) -> Outline
+        ensures value { result ≡ spec.outline before self r }
         ensures bound { result.words ≤ 65543 }
     {
         let first = template_start(self, r);
-        let mend = mend_for(res, first);
+        let mend = mend_for(before, first);
         let words = mended_len(mend, self, r);
         Outline {
             mend,
             words,
             result: last_result(self, r),
-            parted: is_clash(res, first) && is_carrying(first),
+            parted: is_clash(before, first) && is_carrying(first),
         }
     }
 

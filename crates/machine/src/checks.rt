@@ -21,10 +21,10 @@ fn differing(registers: &[u16; 16], copies: &[u16; 16]) -> u8
 }
 
 // The register that is read late is the result of the word before.
-fn in_hazard(late: u8, res: u8) -> bool
-    ensures { result ≡ spec.hazard late res }
+fn in_hazard(late: u8, before: u8) -> bool
+    ensures { result ≡ spec.hazard late before }
 {
-    late != 0 && late == res
+    late != 0 && late == before
 }
 
 impl State {

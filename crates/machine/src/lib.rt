@@ -1,4 +1,6 @@
 // The core: loaded with an image, it runs words in place over any memory, and takes requests between them.
+#![tactic(auto)]
+
 mod answers;
 mod body;
 mod checks;

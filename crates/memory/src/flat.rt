@@ -20,7 +20,7 @@ impl<'a> FlatMemory<'a> {
     }
 }
 
-pub impl<'a> Memory for FlatMemory<'a> as FlatIsMemory {
+impl<'a> Memory for FlatMemory<'a> {
     ghost means = { λ m. flat m.buffer.now };
 
     ghost lawful = { λ m. flat_lawful m.buffer.now };

@@ -2,8 +2,8 @@
 ghost use Rattle.std.specs.Prelude.{◌≡◌};
 ghost use Rattle.memory.specs.Lending.{FlatBytes, MappedBytes};
 
-use crate::flat::{FlatIsMemory, FlatMemory};
-use crate::mapped::{MappedIsMemory, MappedMemory};
+use crate::flat::FlatMemory;
+use crate::mapped::MappedMemory;
 use crate::page_tables::PageTable;
 use crate::storing::store_image;
 

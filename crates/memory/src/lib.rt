@@ -1,4 +1,6 @@
 // The memory interface and its two implementations, flat and mapped, and what is done over any memory.
+#![tactic(auto)]
+
 mod flat;
 mod interface;
 mod lending;
@@ -6,9 +8,9 @@ mod mapped;
 mod page_tables;
 mod storing;
 
-pub use flat::{FlatIsMemory, FlatMemory};
+pub use flat::FlatMemory;
 pub use interface::Memory;
 pub use lending::{store_image_in, store_mapped_image_in};
-pub use mapped::{MappedIsMemory, MappedMemory};
+pub use mapped::MappedMemory;
 pub use page_tables::PageTable;
 pub use storing::{agree, load_word, store_image, store_word};

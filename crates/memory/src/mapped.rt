@@ -31,7 +31,7 @@ fn place_of(table: &PageTable, address: u16) -> usize
     (word as usize % 0x4000) * 0x1000 + address as usize % 0x1000
 }
 
-pub impl<'a> Memory for MappedMemory<'a> as MappedIsMemory {
+impl<'a> Memory for MappedMemory<'a> {
     ghost means = { λ m. mapped m.table.words m.buffer.now };
 
     ghost lawful = { λ m. mapped_lawful m.table.words m.buffer.now };

@@ -1,4 +1,6 @@
 // A listing assembled, loaded twice and rehearsed: a list of actions on one core, and its own steps alone on a twin.
+#![tactic(auto)]
+
 mod comparing;
 mod playing;
 mod rehearsing;

@@ -76,8 +76,8 @@ fn refusal_of_equal(record: Record, count: usize) -> Result<(u8, usize), Refusal
     }
 }
 
-fn accepted<T>(res: Result<T, Refusal>) -> Result<T, Fail> {
-    match res {
+fn accepted<T>(answer: Result<T, Refusal>) -> Result<T, Fail> {
+    match answer {
         Ok(value) => Ok(value),
         Err(refusal) => Err(Fail::new(refusal.word())),
     }

@@ -1,7 +1,5 @@
 // Flat and mapped memory at their edges.
-use memory::{
-    FlatIsMemory, FlatMemory, MappedIsMemory, MappedMemory, Memory, PageTable, agree, store_word,
-};
+use memory::{FlatMemory, MappedMemory, Memory, PageTable, agree, store_word};
 use std::test::Fail;
 
 // Page i at frame i, all open.

@@ -1,6 +1,5 @@
 // A listing that is written record by record.
 use crate::troubles::granted;
-use anyhow::impls::*;
 use listing::{Operation, Record};
 use std::alloc::Global;
 

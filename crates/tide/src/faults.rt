@@ -3,7 +3,6 @@ ghost use Rattle.std.specs.Prelude.{◌<◌};
 
 use crate::programs::BLOCK_SIZE;
 use crate::workshop::{Curve, curve_in, loaded};
-use anyhow::impls::*;
 use machine::{Core, End, StepRefusal};
 use memory::{Memory, load_word};
 

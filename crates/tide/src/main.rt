@@ -1,4 +1,6 @@
 // One tide of a quay display: its listing is built, assembled and run, and rehearsed with requests at every place.
+#![tactic(auto)]
+
 mod constituents;
 mod drafts;
 mod faults;
@@ -8,7 +10,6 @@ mod programs;
 mod troubles;
 mod workshop;
 
-use anyhow::impls::*;
 use placings::{Tide, place_one, place_two};
 use printing::{print_faults, print_findings, print_phases, print_sizes, print_tide};
 use programs::{Fault, listing_with};

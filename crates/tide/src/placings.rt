@@ -1,8 +1,8 @@
 // Requests placed among the own steps of one tide, each placing rehearsed.
 ghost use Rattle.std.specs.Prelude.{◌≤◌};
 
+use crate::troubles::refused;
 use crate::workshop::{Curve, Workshop, curve_in, loaded, same_curve};
-use anyhow::impls::*;
 use histories::Action;
 use machine::{Side, Step};
 use memory::Memory;
@@ -39,8 +39,8 @@ pub(crate) fn measure<M: Memory>(memory: &mut M, image: &[u8], text: u16) -> any
     let mut own = 0u16;
     for _ in 0..u16::MAX {
         let before = core.counter();
-        if let Err(refused) = core.step(memory) {
-            return Err(refused.refusal.word().into());
+        if let Err(stopped) = core.step(memory) {
+            return Err(refused(stopped.refusal));
         }
         own = own.saturating_add(1);
         if core.counter() == before {

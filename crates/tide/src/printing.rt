@@ -5,7 +5,6 @@ use crate::placings::{Findings, Tide};
 use crate::programs::{Fault, HEIGHTS, HIGH, LOW, expected_height, listing_with};
 use crate::workshop::{Curve, LARGEST_IMAGE, Workshop, same_curve};
 use anyhow::anyhow;
-use anyhow::impls::*;
 use assembler::assemble;
 
 // The height that one mark of the picture stands for, in millimetres.

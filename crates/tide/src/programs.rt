@@ -3,7 +3,6 @@ ghost use Rattle.std.specs.Prelude.{◌<◌};
 
 use crate::constituents::{COUNT, Constituent, PARTS};
 use crate::drafts::{Draft, Label, constant, define, plain, reference, registers, word};
-use anyhow::impls::*;
 use isa::{Condition, ImmediateFunction, RegisterFunction};
 use listing::{Operation, Record};
 use std::alloc::Global;

@@ -1,14 +1,17 @@
 // What ends the program early.
-use anyhow::impls::*;
+use anyhow::anyhow;
 use isa::Refusal;
 use rehearsal::Obstacle;
 
+// The error that ends the program where a call refused.
+pub(crate) fn refused(refusal: Refusal) -> anyhow::Error {
+    let word = refusal.word();
+    anyhow!("{word}")
+}
+
 // What a call granted; a refusal ends the program.
-pub(crate) fn granted<T: Drop>(res: Result<T, Refusal>) -> anyhow::Result<T> {
-    match res {
-        Ok(value) => Ok(value),
-        Err(refusal) => Err(refusal.word().into()),
-    }
+pub(crate) fn granted<T: Drop>(answer: Result<T, Refusal>) -> anyhow::Result<T> {
+    answer.map_err(refused)
 }
 
 // The refusal behind an obstacle.

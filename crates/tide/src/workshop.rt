@@ -4,15 +4,12 @@ ghost use Rattle.std.specs.Prelude.{◌<◌, ◌≤◌, IfOk};
 use crate::faults::{Unkept, Unprefixed};
 use crate::placings::Tide;
 use crate::programs::{BLOCK_SIZE, CURVE, HEIGHTS, HIGH, LOW, TICKS};
-use crate::troubles::{granted, reason};
+use crate::troubles::{granted, reason, refused};
 use crate::{faults, placings};
-use anyhow::impls::*;
 use assembler::assemble;
 use histories::{Action, leaves_no_mark};
 use machine::Core;
-use memory::{
-    FlatIsMemory, FlatMemory, MappedIsMemory, MappedMemory, Memory, PageTable, agree, load_word,
-};
+use memory::{FlatMemory, MappedMemory, Memory, PageTable, agree, load_word};
 use rehearsal::{Report, rehearse};
 use std::alloc::Global;
 use text::Answers;
@@ -77,7 +74,7 @@ impl Workshop {
         let mut image = vec![in heap; 0; LARGEST_IMAGE]?;
         let answers = match assemble(listing.as_slice(), image.as_mut_slice()) {
             Ok(answers) => answers,
-            Err(refused) => return Err(refused.refusal.word().into()),
+            Err(stopped) => return Err(refused(stopped.refusal)),
         };
         image.truncate(answers.image);
         Ok(Workshop {
@@ -152,7 +149,7 @@ impl Workshop {
             actions,
         ) {
             Ok(report) => Ok(report),
-            Err(obstacle) => Err(reason(obstacle).word().into()),
+            Err(obstacle) => Err(refused(reason(obstacle))),
         }
     }
 

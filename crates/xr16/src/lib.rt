@@ -1,4 +1,6 @@
 // The assembler and the core for other programs to link: bytes and numbers go in, plain structs come out.
+#![tactic(auto)]
+
 mod acting;
 mod actions;
 mod answers;

@@ -11,7 +11,7 @@ use crate::actions::action_at;
 use crate::answers::{Deed, Playing, Totals};
 use crate::reporting::report;
 use machine::Core;
-use memory::{FlatIsMemory, FlatMemory, Memory};
+use memory::{FlatMemory, Memory};
 
 fn nothing() -> Totals
     ensures { result ≡ spec.nothing }

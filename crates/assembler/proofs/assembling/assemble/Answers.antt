@@ -18,23 +18,23 @@ use Rattle.assembler.proofs.Steps.{answered, refused}
 use Rattle.assembler.proofs.Stores.{stored_front}
 use Rattle.assembler.proofs.assembling.assemble.Goals as goal
 
-pub returns-in-err-plan : goal.returns-in-err-plan
-returns-in-err-plan c =
+pub returns-in_err-plan : goal.returns-in_err-plan
+returns-in_err-plan c =
     let l = c.args.listing.now in
     let room = length c.args.image.now in
-    let e = c.in-err-plan.field-0.0 in
-    let p = err_from_is_err_and c.from-residual.result c.from-residual.ensures.1 in
+    let e = c.in_err-plan.field-0.0 in
+    let p = err_from_is_err_and c.from_residual.result c.from_residual.ensures.1 in
     let from = p.1 in
     let to = p.2 in
-    let same : c.from-residual.result ≡ Err e = cc in
+    let same : c.from_residual.result ≡ Err e = cc in
     record {
-      value = same ∙ sym (ap (λ o. or_refused o (answers l)) (refused (failure l room) (plan_of l) e c.in-err-plan.ensures.value));
+      value = same ∙ sym (ap (λ o. or_refused o (answers l)) (refused (failure l room) (plan_of l) e c.in_err-plan.ensures.value));
       image = sym (ap (λ r. cond (is_ok r) (image l ++ drop (length (image l)) c.args.image.now) c.args.image.now) same);
-      hazards = IfOk-from_err c.from-residual.result _ c.from-residual.ensures.0;
-      immediates = IfOk-from_err c.from-residual.result _ c.from-residual.ensures.0;
-      targets = IfOk-from_err c.from-residual.result _ c.from-residual.ensures.0;
-      run = IfOk-from_err c.from-residual.result _ c.from-residual.ensures.0;
-      sizes = IfOk-from_err c.from-residual.result _ c.from-residual.ensures.0;
+      hazards = IfOk-from_err c.from_residual.result _ c.from_residual.ensures.0;
+      immediates = IfOk-from_err c.from_residual.result _ c.from_residual.ensures.0;
+      targets = IfOk-from_err c.from_residual.result _ c.from_residual.ensures.0;
+      run = IfOk-from_err c.from_residual.result _ c.from_residual.ensures.0;
+      sizes = IfOk-from_err c.from_residual.result _ c.from_residual.ensures.0;
     }
 
 pub returns : goal.returns
@@ -42,24 +42,24 @@ returns c =
     let l = c.args.listing.now in
     let xs = c.args.image.now in
     let n : ℕ = length l / 8 in
-    let told = c.in-ok-plan.ensures in
-    let p = c.in-ok-plan.plan in
+    let told = c.in_ok-plan.ensures in
+    let p = c.in_ok-plan.plan in
     let is : p ≡ plan_of l = told.plan in
     let none : failure l (length xs) ≡ None = answered (failure l (length xs)) (plan_of l) p told.value in
     let ok = acceptance l (length xs) none in
     let long = image_long l in
     let room : length (image l) ≤ length xs = omega (arith, ok.roomy) in
-    let after = c.write-image.ensures ∙ stored_front xs (image l) room in
+    let after = c.write_image.ensures ∙ stored_front xs (image l) room in
     let rest : List ℕ = drop (length (image l)) xs in
     let whole : List ℕ = image l ++ rest in
     let size : ℕ = text_length l n in
     let cut : p.text - 0 ≡ size = omega (arith, ap (λ q. q.text) is) in
     let fits : size ≤ length (image l) = omega (arith, long) in
     let cut_long : length (take size whole) ≡ size = length-take-le size whole (omega (arith, length-append (image l) rest)) in
-    let run : c.longest-run-run.result ≡ longest (image l) (size / 2) =
-    c.longest-run-run.ensures.value ∙ (λ j. longest (take (cut j) (after j)) (length (take (cut j) (after j)) / 2))
+    let run : c.longest_run-run.result ≡ longest (image l) (size / 2) =
+    c.longest_run-run.ensures.value ∙ (λ j. longest (take (cut j) (after j)) (length (take (cut j) (after j)) / 2))
     ∙ ap (λ m. longest (take size whole) (m / 2)) cut_long ∙ longest_take (image l) rest size (size / 2) (omega arith) fits in
-    let given : Answers = record { text = p.text; image = p.image; run = c.longest-run-run.result } in
+    let given : Answers = record { text = p.text; image = p.image; run = c.longest_run-run.result } in
     let same : given ≡ answers l = λ j. record { text = (is j).text; image = (is j).image; run = run j } in
     record {
       value = ap Ok same ∙ sym (ap (λ o. or_refused o (answers l)) none);

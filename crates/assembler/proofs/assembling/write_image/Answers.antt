@@ -18,8 +18,8 @@ returns c =
     let is = c.requires.plan in
     let long : length front ≡ p.end = section_length p.text ls section.Text l n ∙ ap (λ q. q.end) (sym is) in
     let le : p.end ≤ p.text = omega (arith, ap (λ q. q.text) is, ap (λ q. q.end) is) in
-    c.write-data.ensures
-    ∙ ap (λ ys. stored ys p.text back) (c.write-zeros.ensures ∙ ap (λ ys. stored ys p.end (replicate (p.text - p.end) 0)) c.write-section.ensures)
+    c.write_data.ensures
+    ∙ ap (λ ys. stored ys p.text back) (c.write_zeros.ensures ∙ ap (λ ys. stored ys p.end (replicate (p.text - p.end) 0)) c.write_section.ensures)
     ∙ three xs front back p.end p.text long le
     ∙ (λ j. stored xs 0 ((section_bytes section.Text (is j).text (c.requires.labels j) l n ++ replicate
     ((is j).text - (is j).end) 0) ++ section_bytes section.Data (is j).text (c.requires.labels j) l n))

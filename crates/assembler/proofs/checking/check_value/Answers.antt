@@ -6,14 +6,14 @@ use Rattle.assembler.proofs.checking.check_value.Goals as goal
 
 pub returns-in-Some : goal.returns-in-Some
 returns-in-Some c =
-    let fits : SFits w64 c.in-ok-v.v = search rules in
+    let fits : SFits w64 c.in_ok-v.v = search rules in
     sym (ap (λ o. or_refused o tt) (checked_by c.args.base c.args.labels.now c.args.place (Some c.args.r) c.args.r c.args.index
-    c.args.item c.in-ok-v.v _ _
-    refl c.in-ok-v.ensures.value c.requires.item (to_z-of_z w64 c.in-ok-v.v fits) c.in-Some.ensures))
+    c.args.item c.in_ok-v.v _ _
+    refl c.in_ok-v.ensures.value c.requires.item (to_z-of_z w64 c.in_ok-v.v fits) c.in-Some.ensures))
 
 pub returns-in-None : goal.returns-in-None
 returns-in-None c =
-    let fits : SFits w64 c.in-ok-v.v = search rules in
+    let fits : SFits w64 c.in_ok-v.v = search rules in
     sym (ap (λ o. or_refused o tt) (checked_by c.args.base c.args.labels.now c.args.place (Some c.args.r) c.args.r c.args.index
-    c.args.item c.in-ok-v.v _ _
-    refl c.in-ok-v.ensures.value c.requires.item (to_z-of_z w64 c.in-ok-v.v fits) c.in-None.ensures))
+    c.args.item c.in_ok-v.v _ _
+    refl c.in_ok-v.ensures.value c.requires.item (to_z-of_z w64 c.in_ok-v.v fits) c.in-None.ensures))

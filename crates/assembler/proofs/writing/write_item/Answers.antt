@@ -8,8 +8,8 @@ use Rattle.assembler.specs.Storing.{stored}
 use Rattle.assembler.specs.Measures.{mend_at}
 use Rattle.assembler.proofs.writing.write_item.Goals as goal
 
-pub write-body-requires : goal.write-body-requires
-write-body-requires c = record {
+pub write_body-requires : goal.write_body-requires
+write_body-requires c = record {
   at = c.requires.at;
   text = c.requires.text;
   low = search rules;
@@ -27,7 +27,7 @@ returns-in-Words c =
     let v = c.args.v in
     let size : c.args.m.size ≡ 2 * length ss = ap (λ m. m.size) c.requires.measure ∙ ap (λ i. size_of i p r) c.in-Words.is in
     let count : c.args.m.size / 2 ≡ length ss = omega arith in
-    c.write-body.ensures
+    c.write_body.ensures
     ∙ (λ j. stored c.args.out.now c.args.at (words (number_of b.negated (to_z-of_z w64 v c.ranges.v j)) p.text ss (count j)))
     ∙ sym (ap (λ i. stored c.args.out.now c.args.at (bytes_of i p r v)) c.in-Words.is)
 
@@ -36,7 +36,7 @@ unfolding stored
 returns-in-Byte c =
     let xs = c.args.out.now in
     let at = c.args.at in
-    c.put.ensures ∙ ap (λ n. set xs at (n % 256)) (c.low-bits.ensures.value ∙ ap bits16 (to_z-of_z w64 c.args.v c.ranges.v))
+    c.put.ensures ∙ ap (λ n. set xs at (n % 256)) (c.low_bits.ensures.value ∙ ap bits16 (to_z-of_z w64 c.args.v c.ranges.v))
     ∙ sym (ap (λ i. stored xs at (bytes_of i c.args.place c.args.r c.args.v)) c.in-Byte.is)
 
 pub returns-in-Word : goal.returns-in-Word
@@ -44,15 +44,15 @@ unfolding stored
 returns-in-Word c =
     let xs = c.args.out.now in
     let at = c.args.at in
-    let b = c.low-bits-bits.ensures.value ∙ ap bits16 (to_z-of_z w64 c.args.v c.ranges.v) in
-    c.put-in-Word-2.ensures ∙ ap (λ ys. set ys (at + 1) (c.low-bits-bits.result % 256)) c.put-in-Word.ensures
+    let b = c.low_bits-bits.ensures.value ∙ ap bits16 (to_z-of_z w64 c.args.v c.ranges.v) in
+    c.put-in-Word-2.ensures ∙ ap (λ ys. set ys (at + 1) (c.low_bits-bits.result % 256)) c.put-in-Word.ensures
     ∙ ap (λ n. set (set xs at (n / 256 % 256)) (at + 1) (n % 256)) b
     ∙ sym (ap (λ i. stored xs at (bytes_of i c.args.place c.args.r c.args.v)) c.in-Word.is)
 
 pub returns-in-Align : goal.returns-in-Align
 returns-in-Align c =
     let size = ap (λ m. m.size) c.requires.measure ∙ ap (λ i. size_of i c.args.place c.args.r) c.in-Align.is in
-    c.write-zeros.ensures ∙ ap (λ n. stored c.args.out.now c.args.at (replicate n 0)) size
+    c.write_zeros.ensures ∙ ap (λ n. stored c.args.out.now c.args.at (replicate n 0)) size
     ∙ sym (ap (λ i. stored c.args.out.now c.args.at (bytes_of i c.args.place c.args.r c.args.v)) c.in-Align.is)
 
 pub returns-in-Label : goal.returns-in-Label

@@ -4,11 +4,11 @@ use Rattle.text.specs.Image.{portion}
 use Rattle.assembler.specs.Storing.{stored}
 use Rattle.assembler.proofs.writing.write_next.Goals as goal
 
-pub returns-in-default : goal.returns-in-default
+pub returns-in_default : goal.returns-in_default
 unfolding stored
-returns-in-default c =
+returns-in_default c =
     let p = c.args.place.now in
-    let gone = c.in-default.ensures in
+    let gone = c.in_default.ensures in
     let e = ap (portion c.args.section c.args.base c.args.labels.now p) gone in
     record {
       out = sym (ap (stored c.args.out.now c.args.at) e);

@@ -10,7 +10,7 @@ use Rattle.assembler.proofs.writing.write_section.Goals as goal
 pub loop-index-init : goal.loop-index-init
 unfolding laid stored section_bytes
 loop-index-init c =
-    let e = c.first-place-place.ensures in
+    let e = c.first_place-place.ensures in
     (e, refl, omega arith, omega arith, omega (arith, ap (λ p. p.text) e), omega (arith, ap (λ p. p.«data») e))
 
 pub loop-index-preserved : goal.loop-index-preserved
@@ -25,7 +25,7 @@ loop-index-preserved c =
     let more = portion c.args.section c.args.base c.args.labels.now c.loop-index.place (record_at l i) in
     let is : more ≡ portion c.args.section c.args.base c.args.labels.now (laid l i).place (record_at l i) =
     λ j. portion c.args.section c.args.base c.args.labels.now (inv.0 j) (record_at l i) in
-    let w = c.write-next-at in
+    let w = c.write_next-at in
     rw add-one (
       w.ensures.place ∙ ap (λ p. after p (record_at l i)) inv.0 ∙ sym (place_more l i),
       w.ensures.out ∙ (λ j. stored (inv.1 j) (inv.2 j) more) ∙ sym (stored-++ xs from before more) ∙ ap (λ bs. stored xs from (before ++ bs)) is,

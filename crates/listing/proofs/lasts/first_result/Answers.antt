@@ -6,10 +6,10 @@ use Rattle.listing.specs.Slots.{field_of, first_slots, last_of, number, short}
 use Rattle.listing.proofs.LastWords.{field_last, last_repeated}
 use Rattle.listing.proofs.lasts.first_result.Goals as goal
 
-pub returns-then-number-bits-gt0 : goal.returns-then-number-bits-gt0
-returns-then-number-bits-gt0 c =
+pub returns-then-number_bits-gt0 : goal.returns-then-number_bits-gt0
+returns-then-number_bits-gt0 c =
     let z = number c.args.b c.args.r in
-    let some : 0 < bits16 z = omega (arith, c.number-bits.ensures.value) in
+    let some : 0 < bits16 z = omega (arith, c.number_bits.ensures.value) in
     sym (ap (λ f. last_of (first_slots f c.args.r z)) c.in-Repeat.is
     ∙ last_repeated (bits16 z) (slot.Word (word.Immediate _ c.in-Repeat.rd 1)) some)
 

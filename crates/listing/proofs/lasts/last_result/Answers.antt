@@ -7,7 +7,7 @@ pub returns-in-Nothing : goal.returns-in-Nothing
 returns-in-Nothing c =
     let b = c.args.b in
     let xs = first_slots b.first c.args.r (number b c.args.r) in
-    c.first-result.ensures ∙ sym (ap (λ q. last_of (xs ++ rest_slots q)) c.in-Nothing.is ∙ ap last_of (append_none xs))
+    c.first_result.ensures ∙ sym (ap (λ q. last_of (xs ++ rest_slots q)) c.in-Nothing.is ∙ ap last_of (append_none xs))
 
 pub returns-in-Zero : goal.returns-in-Zero
 returns-in-Zero c =

@@ -6,4 +6,4 @@ pub returns-in-Swap : goal.returns-in-Swap
 returns-in-Swap c =
     let ss = template c.args.b c.args.r in
     let is = ap (λ m. length (mended m ss)) c.in-Swap.is in
-    record { value = omega (arith, is, length-drop 1 ss, c.template-len-n.ensures.value); bound = omega (arith, c.template-len-n.ensures.bound) }
+    record { value = omega (arith, is, length-drop 1 ss, c.template_len-n.ensures.value); bound = omega (arith, c.template_len-n.ensures.bound) }

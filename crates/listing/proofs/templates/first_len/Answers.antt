@@ -9,6 +9,6 @@ returns-in-Repeat c =
     let b = c.args.b in
     let r = c.args.r in
     record {
-      value = c.number-bits.ensures.value ∙ sym (length-replicate (bits16 (number b r)) _) ∙ sym (ap (λ f. length (first_slots f r (number b r))) c.in-Repeat.is);
-      bound = omega (arith, c.number-bits.ensures.bound);
+      value = c.number_bits.ensures.value ∙ sym (length-replicate (bits16 (number b r)) _) ∙ sym (ap (λ f. length (first_slots f r (number b r))) c.in-Repeat.is);
+      bound = omega (arith, c.number_bits.ensures.bound);
     }

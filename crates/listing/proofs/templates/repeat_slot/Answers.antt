@@ -8,16 +8,16 @@ use Rattle.listing.specs.Numbers.{bits16}
 use Rattle.listing.specs.Slots.{number, nop}
 use Rattle.listing.proofs.templates.repeat_slot.Goals as goal
 
-pub returns-then-k-number-bits : goal.returns-then-k-number-bits
-returns-then-k-number-bits c =
+pub returns-then-k-number_bits : goal.returns-then-k-number_bits
+returns-then-k-number_bits c =
     let n = bits16 (number c.args.b c.args.r) in
-    let h : c.args.k < n = omega (arith, c.number-bits.ensures.value) in
+    let h : c.args.k < n = omega (arith, c.number_bits.ensures.value) in
     sym (get_or-replicate n c.args.k (slot.Word (word.Immediate c.args.function c.args.rd 1)) nop h)
 
-pub returns-else-k-number-bits : goal.returns-else-k-number-bits
-returns-else-k-number-bits c =
+pub returns-else-k-number_bits : goal.returns-else-k-number_bits
+returns-else-k-number_bits c =
     let n = bits16 (number c.args.b c.args.r) in
     let s : Slot = slot.Word (word.Immediate c.args.function c.args.rd 1) in
     let e = length-replicate n s in
-    let h : length (replicate n s) ≤ c.args.k = omega (arith, c.number-bits.ensures.value) in
+    let h : length (replicate n s) ≤ c.args.k = omega (arith, c.number_bits.ensures.value) in
     sym (get_or_past (replicate n s) c.args.k nop h)

@@ -8,6 +8,6 @@ returns c =
     let r = c.args.r in
     let xs = first_slots b.first r (number b r) in
     record {
-      value = omega (arith, length-append xs (rest_slots b.rest), c.first-len.ensures.value, c.rest-len.ensures.value);
-      bound = omega (arith, c.first-len.ensures.bound, c.rest-len.ensures.bound);
+      value = omega (arith, length-append xs (rest_slots b.rest), c.first_len.ensures.value, c.rest_len.ensures.value);
+      bound = omega (arith, c.first_len.ensures.bound, c.rest_len.ensures.bound);
     }

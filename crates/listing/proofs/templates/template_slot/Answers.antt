@@ -8,8 +8,8 @@ returns-then-k-n c =
     let b = c.args.b in
     let r = c.args.r in
     let xs = first_slots b.first r (number b r) in
-    let h : c.args.k < length xs = omega (arith, c.first-len-n.ensures.value) in
-    c.first-slot.ensures ∙ sym (get_or_append_left xs (rest_slots b.rest) nop c.args.k h)
+    let h : c.args.k < length xs = omega (arith, c.first_len-n.ensures.value) in
+    c.first_slot.ensures ∙ sym (get_or_append_left xs (rest_slots b.rest) nop c.args.k h)
 
 pub returns-else-k-n : goal.returns-else-k-n
 returns-else-k-n c =
@@ -17,6 +17,6 @@ returns-else-k-n c =
     let r = c.args.r in
     let k = c.args.k in
     let xs = first_slots b.first r (number b r) in
-    let n = c.first-len-n.result in
-    let is : length xs + (k - n) ≡ k = omega (arith, c.first-len-n.ensures.value) in
-    c.rest-slot.ensures ∙ sym (get_or-append-add xs (rest_slots b.rest) (k - n) nop) ∙ ap (λ j. get_or (xs ++ rest_slots b.rest) j nop) is
+    let n = c.first_len-n.result in
+    let is : length xs + (k - n) ≡ k = omega (arith, c.first_len-n.ensures.value) in
+    c.rest_slot.ensures ∙ sym (get_or-append-add xs (rest_slots b.rest) (k - n) nop) ∙ ap (λ j. get_or (xs ++ rest_slots b.rest) j nop) is

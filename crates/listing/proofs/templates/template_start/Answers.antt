@@ -8,6 +8,6 @@ returns-in-Field c =
     let b = c.args.b in
     let r = c.args.r in
     let z = number b r in
-    c.field-slot.ensures
+    c.field_slot.ensures
     ∙ cond_both (short c.in-Field.form r z) _ _ (λ ss. get_or ss 0 nop ≡ get_or (ss ++ rest_slots b.rest) 0 nop) (λ _. refl) (λ _. refl)
     ∙ ap (λ f. get_or (first_slots f r z ++ rest_slots b.rest) 0 nop) (sym c.in-Field.is)

@@ -4,7 +4,7 @@ use Rattle.memory.proofs.lending.store_mapped_image_in.Goals as goal
 
 pub returns : goal.returns
 returns c =
-    let lent = c.store-image.ensures.lent in
+    let lent = c.store_image.ensures.lent in
     let name = ap (λ l. l.name) lent in
-    mapped_bytes _ c.store-image.new.memory.table.words _ _ _ 0 0 (search rules) (search rules) (search rules)
+    mapped_bytes _ c.store_image.new.memory.table.words _ _ _ 0 0 (search rules) (search rules) (search rules)
     (λ p. search rules) (λ p. search rules)

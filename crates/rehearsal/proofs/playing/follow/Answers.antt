@@ -11,7 +11,7 @@ loop-i-preserved g c =
     let k = c.args.steps - (c.loop-i.i + 1) in
     let left : c.args.steps - c.loop-i.i ≡ suc k = omega arith in
     let made = c.step.ensures.exact in (
-      followed k s m _ _ _ made _ _ _ c.is-made-own-all.ensures
+      followed k s m _ _ _ made _ _ _ c.is_made_own-all.ensures
           (c.loop-i.invariant.0 ∙ ap (λ j. c.loop-i.all && all_own j s m.byte m.mark) left),
       c.loop-i.invariant.1 ∙ ap (λ j. repeated j s m.byte m.mark) left ∙ repeats k s m _ _ _ made,
       ap (λ u. u.mark) made.memory ∙ c.loop-i.invariant.2,

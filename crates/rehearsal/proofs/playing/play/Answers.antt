@@ -42,7 +42,7 @@ returns g c =
     record {
       stage = inv.0 ∙ ap (rehearsed m₀.mark n₀.mark now') (drop_all c.loop-action.action-index c.args.actions.now c.loop-action-test.false);
       marks = inv.1;
-      twin-marks = inv.2;
+      twin_marks = inv.2;
       lent = inv.3;
-      twin-lent = inv.4;
+      twin_lent = inv.4;
     }

@@ -22,7 +22,7 @@ returns-in-Err-load g c =
       outcome = (written.accepted, refused, first.memory ∙ ap (λ r. loaded_memory r (image l) m) refused, refl);
       facts = tt;
       lent = c.load.ensures.lent;
-      twin-lent = refl;
+      twin_lent = refl;
     }
 
 pub returns-in-Err-load-2 : goal.returns-in-Err-load-2
@@ -39,7 +39,7 @@ returns-in-Err-load-2 g c =
     let n = g.N.Memory.means c.args.twin_memory.now in
     let second = loads_image l before after a c.args.lo c.args.hi c.args.twin.now.state n
     c.load-2.result c.load-2.new.self.state (g.N.Memory.means c.load-2.new.memory) written c.load-2.ensures.exact in
-    let accepted = sym first.answers ∙ c.in-default.is in
+    let accepted = sym first.answers ∙ c.in_default.is in
     let refused = sym second.answers ∙ c.in-Err-load-2.is in
     record {
       image = written.buffer;
@@ -52,7 +52,7 @@ returns-in-Err-load-2 g c =
       );
       facts = tt;
       lent = c.load.ensures.lent;
-      twin-lent = c.load-2.ensures.lent;
+      twin_lent = c.load-2.ensures.lent;
     }
 
 pub returns : goal.returns
@@ -70,8 +70,8 @@ returns g c =
     let second = loads_image l before after a c.args.lo c.args.hi c.args.twin.now.state n
     c.load-2.result c.load-2.new.self.state (g.N.Memory.means c.load-2.new.memory) written c.load-2.ensures.exact in
     let layout = layout_of l c.args.lo c.args.hi in
-    let accepted = sym first.answers ∙ c.in-default.is in
-    let accepted' = sym second.answers ∙ c.in-default-load.is in
+    let accepted = sym first.answers ∙ c.in_default.is in
+    let accepted' = sym second.answers ∙ c.in_default-load.is in
     record {
       image = written.buffer;
       outcome = (
@@ -86,5 +86,5 @@ returns g c =
       );
       facts = accepted_so l a written.same facts.hazards facts.run facts.sizes;
       lent = c.load.ensures.lent;
-      twin-lent = c.load-2.ensures.lent;
+      twin_lent = c.load-2.ensures.lent;
     }

@@ -15,7 +15,7 @@ returns g c =
     let m = g.M.Memory.means c.args.memory.now in
     let n = g.N.Memory.means c.args.twin_memory.now in
     let actions = c.args.actions.now in
-    let ready = c.in-ok-answers.ensures in
+    let ready = c.in_ok-answers.ensures in
     let out = ready.outcome in
     let m₁ = g.M.Memory.means c.prepare.new.memory in
     let n₁ = g.N.Memory.means c.prepare.new.twin_memory in
@@ -31,8 +31,8 @@ returns g c =
     (stage_of c.play-played.new.core.state m₂ c.play-played.new.twin.state n₂ totals kept) out.4 out.5 out.6 out.7 played.stage in
     let reported : Reported l lo hi m n actions c.finish.result m₃ n₃ =
     reported_so l lo hi m n actions c.finish.result c.play-played.new.core.state m₂ c.play-played.new.twin.state n₂ totals kept
-    (c.in-ok-answers.answers.run + 1) m₃ n₃ over
-    (played.marks ∙ ap (λ (x : Meaning). x.mark) out.5) (played.twin-marks ∙ ap (λ (x : Meaning). x.mark) out.7)
+    (c.in_ok-answers.answers.run + 1) m₃ n₃ over
+    (played.marks ∙ ap (λ (x : Meaning). x.mark) out.5) (played.twin_marks ∙ ap (λ (x : Meaning). x.mark) out.7)
     (ap (λ (a : Answers). a.run + 1) out.0)
     done.totals done.kept done.limit done.program done.next done.twin_next done.memory done.twin_memory in
     record {
@@ -40,5 +40,5 @@ returns g c =
       outcome = (out.1, out.2, out.3, reported);
       promises = promised l lo hi m n actions c.finish.result m₃ n₃ ready.facts out.2 reported;
       lent = done.lent ∙ played.lent ∙ ready.lent;
-      twin-lent = done.twin-lent ∙ played.twin-lent ∙ ready.twin-lent;
+      twin_lent = done.twin_lent ∙ played.twin_lent ∙ ready.twin_lent;
     }

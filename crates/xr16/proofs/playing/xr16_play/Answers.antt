@@ -8,7 +8,7 @@ use Rattle.xr16.proofs.playing.xr16_play.Goals as goal
 
 pub returns : goal.returns
 returns c =
-    let lent = c.load-and-play.ensures.lent in
+    let lent = c.load_and_play.ensures.lent in
     let name = ap (λ (l : Loan). l.name) lent in
     record {
       answer = search rules;

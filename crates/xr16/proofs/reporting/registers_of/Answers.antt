@@ -15,9 +15,9 @@ loop-number-preserved c =
     let n = c.loop-number.number in
     let held = c.args.core.now.state.registers in
     let inv = c.loop-number.invariant in (
-      length-set registers n c.register-of.result ∙ inv.0,
-      take_more_set registers n c.register-of.result (omega arith)
-          ∙ (λ i. inv.1 i ++ (c.register-of.ensures i ∷ []))
+      length-set registers n c.register_of.result ∙ inv.0,
+      take_more_set registers n c.register_of.result (omega arith)
+          ∙ (λ i. inv.1 i ++ (c.register_of.ensures i ∷ []))
           ∙ ap (registers_below held) (sym (add-one n)),
     )
 

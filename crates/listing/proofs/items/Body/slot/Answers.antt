@@ -17,10 +17,10 @@ pub returns-in-Swap-1-to-max : goal.returns-in-Swap-1-to-max
 returns-in-Swap-1-to-max c =
     let ss = template c.args.self c.args.r in
     let k = c.args.k in
-    c.template-slot-in-Swap-1-to-max.ensures ∙ sym (dropped (slot.Word _) nop ss k (omega arith)) ∙ ap (λ m. get_or (mended m ss) k nop) (sym c.in-Swap-1-to-max.is-0)
+    c.template_slot-in-Swap-1-to-max.ensures ∙ sym (dropped (slot.Word _) nop ss k (omega arith)) ∙ ap (λ m. get_or (mended m ss) k nop) (sym c.in-Swap-1-to-max.is-0)
 
 pub returns-in-Nop-1-to-max : goal.returns-in-Nop-1-to-max
 returns-in-Nop-1-to-max c =
     let ss = template c.args.self c.args.r in
     let k = c.args.k in
-    c.template-slot-in-Nop-1-to-max.ensures ∙ sym (later nop nop ss k (omega arith)) ∙ ap (λ m. get_or (mended m ss) k nop) (sym c.in-Nop-1-to-max.is-0)
+    c.template_slot-in-Nop-1-to-max.ensures ∙ sym (later nop nop ss k (omega arith)) ∙ ap (λ m. get_or (mended m ss) k nop) (sym c.in-Nop-1-to-max.is-0)

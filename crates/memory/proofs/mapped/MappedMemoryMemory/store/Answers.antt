@@ -2,7 +2,7 @@ use Rattle.std.proofs.Common.{◌/◌, ◌<◌, cond, get_or, set, refl, ap, ◌
 use Rattle.memory.specs.Pages.{named}
 use Rattle.memory.proofs.Extent.{meaning_ext, loan_ext}
 use Rattle.memory.proofs.Frames.{apart_kept}
-use Rattle.memory.proofs.mapped.MappedIsMemory.store.Goals as goal
+use Rattle.memory.proofs.mapped.MappedMemoryMemory.store.Goals as goal
 
 pub returns-then-at-self : goal.returns-then-at-self
 returns-then-at-self c =
@@ -12,6 +12,6 @@ returns-then-at-self c =
     record {
       meaning = meaning_ext _ _ (λ a. search rules) (λ a. search rules);
       lent = loan_ext _ _ refl refl (search rules)
-          (λ p. ap (λ at. cond (named words (p / 4096)) 0 (get_or (set buffer at c.args.value) p 0)) c.place-of-at.ensures
+          (λ p. ap (λ at. cond (named words (p / 4096)) 0 (get_or (set buffer at c.args.value) p 0)) c.place_of-at.ensures
           ∙ apart_kept words buffer c.args.address c.args.value p small);
     }
