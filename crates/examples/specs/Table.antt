@@ -4,7 +4,6 @@ use Rattle.isa.specs.declared.instructions.Condition.TheVariants.{Br, Blt}
 use Rattle.listing.specs.declared.records.Operation.{Operation}
 use Rattle.listing.specs.declared.records.Operation.TheVariants.{Add, Sub, Addi, Lw, Lb, Branch, Cmpi, J, Reti, Align, Label}
 use Rattle.listing.specs.declared.records.Record.{Record}
-use Rattle.machine.specs.declared.answers.Tally.{Tally}
 use Rattle.histories.specs.declared.actions.Action.TheVariants.{Request, Run}
 use Rattle.examples.specs.Examples.{Example, packs, makes, plays}
 

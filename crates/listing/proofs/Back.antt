@@ -1,5 +1,5 @@
 -- Writing and reading records are one another's inverse.
-use Rattle.std.proofs.Common.{◌≡◌, ℕ, zero, suc, ◌+◌, ◌*◌, ◌/◌, ◌%◌, ◌<◌, Bool, true, false, ◌&&◌, eqb, ltb, List, [], ◌∷◌, ◌++◌, length, get_or, Some, None, Ok, Err, Decides, Option, refl, ap, ◌∙◌, subst, arith, lit<, to_z-of_z, w32, SFits, to_z, of_z}
+use Rattle.std.proofs.Common.{◌≡◌, ℕ, zero, suc, ◌+◌, ◌*◌, ◌/◌, ◌%◌, ◌<◌, Bool, true, ◌&&◌, eqb, ltb, List, [], ◌∷◌, ◌++◌, length, get_or, Some, None, Ok, Err, Decides, Option, refl, ap, ◌∙◌, subst, arith, lit<, to_z-of_z, w32, SFits, to_z, of_z}
 use mir.Facts.{Fits-of_z, of_z-to_z}
 use Rattle.std.proofs.lemmas.Bool.{cond_both, cond-true, eqb-true, both_ways}
 use Rattle.std.proofs.lemmas.Bool.Decides.{Decides-ltb, Decides-and, Decides-like, Decides-below_and}

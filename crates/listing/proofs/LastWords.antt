@@ -1,16 +1,13 @@
 -- The last of a record's words, and what it writes.
-use Rattle.std.proofs.Common.{◌≡◌, ℕ, zero, suc, ◌-◌, ◌<◌, ◌≤◌, Bool, true, false, cond, eqb, ltb, List, [], ◌∷◌, ◌++◌, length, get_or, replicate, ℤ, Some, None, Option, sym, refl, ap, ◌∙◌, arith}
+use Rattle.std.proofs.Common.{◌≡◌, ℕ, zero, suc, ◌-◌, ◌<◌, ◌≤◌, Bool, true, false, cond, eqb, List, [], ◌∷◌, ◌++◌, length, get_or, replicate, Some, None, sym, refl, ap, ◌∙◌, arith}
 use Rattle.isa.specs.declared.instructions.Instruction.{Instruction}
 use Rattle.isa.specs.declared.instructions.Instruction.TheVariants.{Add, Sub, Addi, Register, Immediate, Lw, Lb, Sw, Sb, Jal, Branch, Call, Imm}
-use Rattle.isa.specs.declared.instructions.ImmediateForm.{ImmediateForm}
 use Rattle.isa.specs.Registers.{result as written}
-use Rattle.listing.specs.declared.items.First.TheVariants as first
 use Rattle.listing.specs.declared.items.Mend.TheVariants as mend
 use Rattle.listing.specs.declared.items.Slot.{Slot}
 use Rattle.listing.specs.declared.items.Slot.TheVariants as slot
-use Rattle.listing.specs.declared.records.Record.{Record}
 use Rattle.listing.specs.Operands.{with_immediate}
-use Rattle.listing.specs.Slots.{clash, field_of, first_slots, last_of, mend_by, mend_of, mended, nop, short, slot_result, slot_swapped}
+use Rattle.listing.specs.Slots.{clash, last_of, mend_by, mend_of, mended, nop, slot_result, slot_swapped}
 
 -- a word in front of others is not the last
 pub last_behind : (x y : Slot) (ys : List Slot) → last_of (x ∷ y ∷ ys) ≡ last_of (y ∷ ys)

@@ -21,7 +21,7 @@ use Rattle.rehearsal.specs.declared.reports.Report.{Report}
 use Rattle.rehearsal.specs.declared.reports.Totals.{Totals}
 use Rattle.rehearsal.specs.Laws.{events, Promises, Unmarked}
 use Rattle.rehearsal.specs.Reports.{Accepted, Compared, layout_of, loaded, opening, Reported, stage}
-use Rattle.rehearsal.specs.Stages.{Stage, added, nothing, rehearsed}
+use Rattle.rehearsal.specs.Stages.{Stage, added, nothing}
 use Rattle.rehearsal.proofs.Images.{program_calm, runs_within}
 use Rattle.histories.proofs.Loaded.{loaded_fits}
 use Rattle.rehearsal.proofs.Staged.{led, rehearsed_led}

@@ -1,5 +1,5 @@
 -- Each word of a record is in size.
-use Rattle.std.proofs.Common.{◌≡◌, ℕ, zero, suc, ◌+◌, ◌%◌, ◌<◌, eqb, List, [], ◌∷◌, ◌++◌, get_or, drop, replicate, ℤ, Some, None, Ok, Err, Option, Result, unwrap_or, refl, arith, lit<, rules}
+use Rattle.std.proofs.Common.{◌≡◌, ℕ, zero, suc, ◌%◌, ◌<◌, eqb, List, [], ◌∷◌, ◌++◌, get_or, drop, replicate, ℤ, Some, None, Ok, Err, Option, Result, unwrap_or, refl, arith, lit<, rules}
 use Rattle.std.proofs.lemmas.Bool.{cond_both}
 use Rattle.std.specs.Result.{result_ok}
 use Rattle.isa.specs.declared.instructions.Instruction.{Instruction}

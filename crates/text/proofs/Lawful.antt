@@ -1,7 +1,6 @@
 -- What the meaning of a record keeps to: registers in size, no prefix of its own, immediates of the right kind.
 use Rattle.std.proofs.Common.{◌≡◌, ℕ, ◌+◌, ◌*◌, ◌/◌, ◌<◌, ltb, List, Some, None, Option, refl, subst, arith, lit<}
 use Rattle.std.proofs.lemmas.Bool.{cond_both}
-use Rattle.isa.specs.declared.instructions.Instruction.{Instruction}
 use Rattle.isa.specs.Words.{immediate_number}
 use Rattle.isa.specs.Laws.{InSize}
 use Rattle.listing.specs.Operands.{with_immediate}

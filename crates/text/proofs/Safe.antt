@@ -1,5 +1,5 @@
 -- Within the words of one record there is no hazard, and its first word is mended.
-use Rattle.std.proofs.Common.{◌≡◌, ℕ, zero, suc, ◌+◌, ◌-◌, ◌<◌, true, false, cond, ◌&&◌, eqb, ltb, ◌⊎◌, List, [], ◌∷◌, ◌++◌, length, get_or, drop, replicate, ℤ, Some, None, Option, sym, refl, ◌∙◌, subst, inl, inr, ⊎_elim, arith}
+use Rattle.std.proofs.Common.{◌≡◌, ℕ, zero, suc, ◌<◌, true, false, cond, ◌&&◌, eqb, ltb, ◌⊎◌, List, [], ◌∷◌, ◌++◌, length, get_or, drop, replicate, ℤ, Some, None, Option, sym, refl, ◌∙◌, subst, inl, inr, ⊎_elim, arith}
 use Rattle.std.proofs.lemmas.Bool.{cond_both, cases_Bool, false≢true, eqb-true, lt-ltb, eq-eqb, and_from, and_parts}
 use Rattle.isa.specs.declared.instructions.Instruction.{Instruction}
 use Rattle.isa.specs.declared.instructions.Instruction.TheVariants as word
@@ -12,7 +12,6 @@ use Rattle.listing.specs.declared.items.Rest.{Rest}
 use Rattle.listing.specs.declared.items.Rest.TheVariants as rest
 use Rattle.listing.specs.declared.items.Slot.{Slot}
 use Rattle.listing.specs.declared.items.Slot.TheVariants as slot
-use Rattle.listing.specs.declared.items.Mend.{Mend}
 use Rattle.listing.specs.declared.items.Mend.TheVariants as mend
 use Rattle.listing.specs.Numbers.{bits16}
 use Rattle.text.proofs.Swap.{swap_cases}

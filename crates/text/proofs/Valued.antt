@@ -1,5 +1,5 @@
 -- The values of an accepted listing's records, and the places of its instructions.
-use Rattle.std.proofs.Common.{◌≡◌, ℕ, ◌+◌, ◌/◌, ◌%◌, ◌<◌, Bool, true, false, not, ◌&&◌, eqb, List, [], ◌∷◌, length, get_or, ℤ, pos, ◌+ℤ◌, Some, None, Option, sym, refl, ap, ◌∙◌, arith}
+use Rattle.std.proofs.Common.{◌≡◌, ℕ, ◌/◌, ◌%◌, ◌<◌, Bool, true, false, not, ◌&&◌, eqb, List, [], ◌∷◌, length, get_or, ℤ, pos, ◌+ℤ◌, Some, None, Option, sym, refl, ap, ◌∙◌, arith}
 use Rattle.std.proofs.lemmas.Bool.{cond-true, eqb-true, eq-eqb, false≢true}
 use Rattle.std.specs.Option.{option_map}
 use Rattle.isa.specs.declared.refusals.Refusal.{Refusal}
@@ -14,7 +14,7 @@ use Rattle.listing.specs.Reading.{record_at}
 use Rattle.listing.specs.Meaning.{meaning}
 use Rattle.text.specs.declared.places.Place.{Place}
 use Rattle.text.specs.Layout.{laid, is_text, misplaced}
-use Rattle.text.specs.Image.{address, value, text_length}
+use Rattle.text.specs.Image.{address, text_length}
 use Rattle.text.specs.Values.{outside, reaches, value_refusal, checked, value_refused}
 use Rattle.text.specs.Immediates.{record_value}
 use Rattle.text.proofs.Accepted.{first_none, when_none, refused_none, accepted}

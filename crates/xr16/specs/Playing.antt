@@ -11,7 +11,7 @@ use Rattle.machine.specs.Checks.{owing}
 use Rattle.machine.specs.Loads.{fresh, loading, unloaded}
 use Rattle.machine.specs.Steps.{memory_of}
 use Rattle.histories.specs.declared.actions.Action.{Action}
-use Rattle.histories.specs.Histories.{Point, played}
+use Rattle.histories.specs.Histories.{played}
 use Rattle.xr16.specs.declared.answers.Fault.{Fault}
 use Rattle.xr16.specs.declared.answers.Playing.{Playing}
 use Rattle.xr16.specs.declared.answers.Totals.{Totals}

@@ -1,4 +1,4 @@
-use Rattle.std.proofs.Common.{◌≡◌, ◌+◌, ◌++◌, length, sym, refl, ap, ◌∙◌, add-one, arith, length-append}
+use Rattle.std.proofs.Common.{◌≡◌, ◌++◌, length, sym, refl, ap, ◌∙◌, add-one, arith, length-append}
 use Rattle.listing.specs.Reading.{record_at}
 use Rattle.text.specs.Layout.{laid, after}
 use Rattle.text.specs.Image.{section_bytes, portion}

@@ -1,4 +1,4 @@
-use Rattle.std.proofs.Common.{◌≡◌, ◌<◌, ◌≤◌, sym, ap, ◌∙◌, arith}
+use Rattle.std.proofs.Common.{◌<◌, sym, ap, ◌∙◌, arith}
 use Rattle.isa.specs.declared.instructions.Instruction.TheVariants as word
 use Rattle.listing.specs.declared.items.Slot.TheVariants as slot
 use Rattle.listing.specs.Numbers.{bits16}

@@ -1,7 +1,6 @@
 use Rattle.std.proofs.Common.{◌+◌, ap, ◌∙◌}
 use Rattle.memory.specs.Meaning.{Meaning}
 use Rattle.text.specs.declared.outcomes.Answers.{Answers}
-use Rattle.text.specs.Image.{image}
 use Rattle.rehearsal.specs.Reports.{Reported, stage_of}
 use Rattle.rehearsal.proofs.Promised.{promised}
 use Rattle.rehearsal.proofs.Reporting.{reported_so, staged_list}

@@ -1,12 +1,11 @@
-use Rattle.std.proofs.Common.{◌≡◌, ◌+◌, ◌*◌, ◌<◌, ◌≤◌, length, sym, ap, ◌∙◌, subst, arith, rules}
+use Rattle.std.proofs.Common.{◌≡◌, ◌+◌, ◌*◌, ◌<◌, ◌≤◌, length, sym, ap, ◌∙◌, subst, rules}
 use Rattle.memory.specs.Meaning.{Meaning}
 use Rattle.histories.specs.declared.actions.Action.{Action}
 use Rattle.histories.specs.Histories.{Acts}
-use Rattle.xr16.specs.declared.answers.Totals.{Totals}
 use Rattle.xr16.specs.Actions.{action_at, actions_of}
 use Rattle.xr16.specs.Faults.{fault_in}
 use Rattle.xr16.specs.Playing.{nothing}
-use Rattle.xr16.proofs.Led.{Led, led, led_all, led_none, left, left_none, small_sum, turned}
+use Rattle.xr16.proofs.Led.{Led, led, led_all, led_none, left_none, small_sum, turned}
 use Rattle.xr16.proofs.playing.play.Goals as goal
 
 pub loop-index-preserved : goal.loop-index-preserved

@@ -1,4 +1,4 @@
-use Rattle.std.proofs.Common.{◌≡◌, ap, ◌∙◌, rules}
+use Rattle.std.proofs.Common.{ap, rules}
 use Rattle.memory.specs.Meaning.{Loan, flat}
 use Rattle.machine.specs.Loads.{layout}
 use Rattle.xr16.specs.Actions.{actions_of}
