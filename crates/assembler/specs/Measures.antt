@@ -1,16 +1,13 @@
 -- What a pass wants to know of a record at a place.
-use Rattle.std.specs.Prelude.{◌≡◌, ◌≤◌, Some, None, Option}
 use Rattle.listing.specs.declared.items.Item.{Item}
 use Rattle.listing.specs.declared.items.Item.TheVariants.{Words, Byte, Word, Align, Label, Section as Turn}
 use Rattle.listing.specs.declared.items.Mend.{Mend}
 use Rattle.listing.specs.declared.items.Mend.TheVariants.{Keep}
 use Rattle.listing.specs.declared.records.Record.{Record}
-use Rattle.listing.specs.Meaning.{meaning}
 use Rattle.listing.specs.Slots.{body_mend}
 use Rattle.text.specs.declared.places.Place.{Place}
 use Rattle.text.specs.Layout.{size_of, result_of, parted_at}
 use Rattle.assembler.specs.declared.plans.Measure.{Measure}
-use Rattle.assembler.specs.declared.plans.Survey.{Survey}
 
 -- how its first word is mended; only words are
 abbrev pub mend_at : Item → Place → Record → Mend
@@ -24,9 +21,3 @@ mend_at (Turn s) p r = Keep
 -- how it is mended, how many bytes it adds, the register that its last word writes, and whether adc or sbc is in hazard
 abbrev pub measured : Item → Place → Record → Measure
 measured i p r = record { mend = mend_at i p r; size = size_of i p r; result = result_of i p r; parted = parted_at i p r }
-
--- what is found of a record at a place: the record, what it means and what it adds to its section; or nothing where its operation is not listed
-abbrev pub Surveys : Option Record → Place → Option Survey → Type 0
-Surveys found p None = found ≡ None
-Surveys found p (Some s) =
-    (found ≡ Some s.record) × (s.item ≡ meaning s.record) × (s.measure ≡ measured (meaning s.record) p s.record) × (s.measure.size ≤ 262144)

@@ -1,18 +1,14 @@
 // The second pass: the value of each record.
-ghost use Rattle.std.specs.Prelude.{◌≡◌, ◌+◌, ◌*◌, ◌^◌, ◌<◌, ◌≤◌, false, not, [], ◌∷◌, length, pos, negsuc, ◌≤ℤ◌, IfOk, Some, Ok};
+ghost use Rattle.std.specs.Prelude.{◌≡◌, ◌+◌, ◌*◌, ◌^◌, ◌<◌, ◌≤◌, false, not, [], ◌∷◌, length, pos, negsuc, ◌≤ℤ◌, IfOk};
 ghost use Rattle.isa.specs.declared.refusals.Refusal.TheVariants as refusal;
 ghost use Rattle.listing.specs.Checks.{when, first_some};
-ghost use Rattle.listing.specs.Meaning.{meaning};
-ghost use Rattle.listing.specs.Reading.{record_at};
 ghost use Rattle.text.specs.Image.{address, value};
-ghost use Rattle.text.specs.Layout.{after};
 ghost use Rattle.text.specs.Values as spec;
 ghost use Rattle.text.specs.Values.{found_value, outside, near, first_reaches, reaches, checked, value_refused};
 ghost use Rattle.text.specs.Answer.{or_refused};
 
 use crate::laying::mark_of;
-use crate::measuring::{first_place, low_bits, move_on, survey};
-use crate::plans::Survey;
+use crate::measuring::{advance, first_place, low_bits, record_at};
 use isa::Refusal;
 use listing::{First, Item, Record, Section};
 use text::{Mark, Place, Refused};
@@ -121,55 +117,26 @@ fn refusal_for(item: Item, at: usize, v: i64) -> Option<Refusal>
     }
 }
 
-// Whether a record at a place can be written with its value.
+// Whether the record at a place can be written with its value.
 fn check_value(
     base: usize,
     labels: &[Option<Mark>; 1024],
     place: Place,
-    item: Item,
-    r: Record,
+    found: Option<Record>,
     index: usize,
 ) -> Result<(), Refused>
     requires base { base < 2 ^ 32 }
     requires text { place.text < 2 ^ 32 }
-    requires item { item ≡ meaning r }
-    ensures { result ≡ or_refused (checked base labels.now place (Some r) index) tt }
+    ensures { result ≡ or_refused (checked base labels.now place found index) tt }
 {
+    let Some(r) = found else {
+        return Ok(());
+    };
     let v = value_of(base, labels, r, index)?;
-    match refusal_for(item, place.text, v) {
+    match refusal_for(r.meaning(), place.text, v) {
         Some(refusal) => Err(Refused { refusal, index }),
         None => Ok(()),
     }
-}
-
-// Checks the value of the record at an index, and moves on.
-fn check_next(
-    listing: &[u8],
-    index: usize,
-    base: usize,
-    labels: &[Option<Mark>; 1024],
-    place: &mut Place,
-) -> Result<(), Refused>
-    requires within { 8 * index + 8 ≤ length listing.now }
-    requires base { base < 2 ^ 32 }
-    requires text { place.old.text < 2 ^ 32 }
-    requires stored { place.old.«data» < 2 ^ 32 }
-    ensures value { result ≡ or_refused (checked base labels.now place.old (record_at listing.now index) index) tt }
-    ensures after { result ≡ Ok tt → place.new ≡ after place.old (record_at listing.now index) }
-    ensures text { place.new.text ≤ place.old.text + 262144 }
-    ensures stored { place.new.«data» ≤ place.old.«data» + 262144 }
-{
-    let Some(found) = survey(listing, index, place) else {
-        return Ok(());
-    };
-    let Survey {
-        record,
-        item,
-        measure,
-    } = found;
-    check_value(base, labels, *place, item, record, index)?;
-    *place = move_on(*place, item, measure);
-    Ok(())
 }
 
 // Checks the values of all records.
@@ -186,7 +153,9 @@ pub(crate) fn check_values(
 {
     let mut place = first_place();
     for index in 0..count {
-        check_next(listing, index, base, labels, &mut place)?;
+        let found = record_at(listing, index);
+        check_value(base, labels, place, found, index)?;
+        place = advance(place, found);
     }
     Ok(())
 }

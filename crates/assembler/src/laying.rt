@@ -10,8 +10,8 @@ ghost use Rattle.text.specs.Layout.{start, misplaced, twice, marked_by, layout_r
 ghost use Rattle.text.specs.Answer.{or_refused};
 ghost use Rattle.assembler.specs.Measures.{measured};
 
-use crate::measuring::{end_of, move_on, survey};
-use crate::plans::{Measure, Survey};
+use crate::measuring::{end_of, first_place, measure, move_on, record_at};
+use crate::plans::Measure;
 use isa::Refusal;
 use listing::{Item, Record, Section};
 use text::{Layout, Mark, Place, Refused};
@@ -115,21 +115,18 @@ fn lay_next(listing: &[u8], index: usize, layout: &mut Layout) -> Result<(), Ref
     ensures text { layout.new.place.text ≤ layout.old.place.text + 262144 }
     ensures stored { layout.new.place.«data» ≤ layout.old.place.«data» + 262144 }
 {
-    let Some(found) = survey(listing, index, &layout.place) else {
+    let Some(r) = record_at(listing, index) else {
         return Err(Refused {
             refusal: Refusal::Operation,
             index,
         });
     };
-    let Survey {
-        record,
-        item,
-        measure,
-    } = found;
-    if let Some(refusal) = refusal_of(layout, item, record, measure.parted) {
+    let item = r.meaning();
+    let m = measure(layout.place, item, r);
+    if let Some(refusal) = refusal_of(layout, item, r, m.parted) {
         return Err(Refused { refusal, index });
     }
-    lay(layout, item, record, measure);
+    lay(layout, item, r, m);
     Ok(())
 }
 

@@ -3,15 +3,15 @@ ghost use Rattle.std.specs.Prelude.{◌≡◌, ◌+◌, ◌*◌, ◌^◌, ◌<�
 ghost use Rattle.listing.specs.declared.items.Mend.TheVariants.{Keep};
 ghost use Rattle.listing.specs.Numbers.{bits16};
 ghost use Rattle.listing.specs.Reading.{record_at};
-ghost use Rattle.text.specs.Layout.{here, padding, section_after, grown, start};
-ghost use Rattle.assembler.specs.Measures.{measured, Surveys};
+ghost use Rattle.text.specs.Layout.{here, padding, section_after, grown, moved, after, start};
+ghost use Rattle.assembler.specs.Measures.{measured};
 
-use crate::plans::{Measure, Survey};
+use crate::plans::Measure;
 use listing::{Item, Mend, Record, Section};
 use text::Place;
 
 // The record at an index, or nothing where its operation is not listed.
-fn record_at(listing: &[u8], index: usize) -> Option<Record>
+pub(crate) fn record_at(listing: &[u8], index: usize) -> Option<Record>
     requires { 8 * index + 8 ≤ length listing.now }
     ensures { result ≡ record_at listing.now index }
 {
@@ -85,7 +85,7 @@ fn unmended(size: usize) -> Measure
 }
 
 // What a record at a place adds to its section.
-fn measure(place: Place, item: Item, r: Record) -> Measure
+pub(crate) fn measure(place: Place, item: Item, r: Record) -> Measure
     ensures value { result ≡ measured item place r }
     ensures bound { result.size ≤ 262144 }
 {
@@ -144,19 +144,30 @@ pub(crate) fn move_on(place: Place, item: Item, m: Measure) -> Place
     }
 }
 
-// The record at an index with what it means and what it adds at a place, or nothing where its operation is not listed.
-// The passes all read their records here, so that what is read stays in registers.
-pub(crate) fn survey(listing: &[u8], index: usize, place: &Place) -> Option<Survey>
-    requires { 8 * index + 8 ≤ length listing.now }
-    ensures { Surveys (record_at listing.now index) place.now result }
+// The place after a record.
+fn moved_by(place: Place, r: Record) -> Place
+    requires text { place.text < 2 ^ 32 }
+    requires stored { place.«data» < 2 ^ 32 }
+    ensures value { result ≡ moved place r }
+    ensures text { result.text ≤ place.text + 262144 }
+    ensures stored { result.«data» ≤ place.«data» + 262144 }
 {
-    let record = record_at(listing, index)?;
-    let item = record.meaning();
-    Some(Survey {
-        record,
-        item,
-        measure: measure(*place, item, record),
-    })
+    let item = r.meaning();
+    move_on(place, item, measure(place, item, r))
+}
+
+// The place after the record at an index, listed or not.
+pub(crate) fn advance(place: Place, found: Option<Record>) -> Place
+    requires text { place.text < 2 ^ 32 }
+    requires stored { place.«data» < 2 ^ 32 }
+    ensures value { result ≡ after place found }
+    ensures text { result.text ≤ place.text + 262144 }
+    ensures stored { result.«data» ≤ place.«data» + 262144 }
+{
+    match found {
+        Some(r) => moved_by(place, r),
+        None => place,
+    }
 }
 
 // A listing begins in text, at address 0.

@@ -1,5 +1,5 @@
 // What the passes hand on.
-use listing::{Item, Mend, Record};
+use listing::Mend;
 
 // How a record's first word is mended, how many bytes the record adds to its section, the register that
 // its last word writes, and whether it is adc or sbc in hazard.
@@ -9,14 +9,6 @@ pub(crate) struct Measure {
     pub size: usize,
     pub result: u8,
     pub parted: bool,
-}
-
-// A record, what it means and what it adds to its section.
-#[derive(Clone, Copy)]
-pub(crate) struct Survey {
-    pub record: Record,
-    pub item: Item,
-    pub measure: Measure,
 }
 
 // Where the text ends before it is padded, where it ends then, and where the data end.

@@ -2,7 +2,6 @@
 ghost use Rattle.std.specs.Prelude.{◌≡◌, ◌+◌, ◌*◌, ◌^◌, ◌<◌, ◌≤◌, length, replicate, pos, negsuc, ◌≤ℤ◌, Some, slice_set};
 ghost use Rattle.std.specs.Option.{unwrap_or};
 ghost use Rattle.listing.specs.Meaning.{meaning};
-ghost use Rattle.listing.specs.Reading.{record_at};
 ghost use Rattle.listing.specs.Slots.{slots, body_mend, number_of};
 ghost use Rattle.text.specs.Image as spec;
 ghost use Rattle.text.specs.Image.{value, filled, words, bytes_of, record_bytes, same, portion, section_bytes};
@@ -11,8 +10,8 @@ ghost use Rattle.assembler.specs.Measures.{measured};
 ghost use Rattle.assembler.specs.Storing.{stored};
 
 use crate::checking::value_of;
-use crate::measuring::{first_place, low_bits, move_on, survey};
-use crate::plans::{Measure, Survey};
+use crate::measuring::{first_place, low_bits, measure, move_on, record_at};
+use crate::plans::Measure;
 use isa::Instruction;
 use listing::{Body, Item, Mend, Record, Section, Slot};
 use text::{Mark, Place};
@@ -183,20 +182,18 @@ fn write_record(
     base: usize,
     labels: &[Option<Mark>; 1024],
     place: Place,
-    item: Item,
     r: Record,
     m: Measure,
 )
     requires at { at < 2 ^ 33 }
     requires base { base < 2 ^ 32 }
     requires text { place.text < 2 ^ 32 }
-    requires item { item ≡ meaning r }
     requires measure { m ≡ measured (meaning r) place r }
     requires size { m.size ≤ 262144 }
     ensures { out.new ≡ stored out.old at (record_bytes base labels.now place r) }
 {
     let v = value_or_zero(base, labels, r);
-    write_item(out, at, place, item, r, v, m);
+    write_item(out, at, place, r.meaning(), r, v, m);
 }
 
 // Writes what a record that was measured adds to one section, and answers how many bytes that is.
@@ -207,14 +204,12 @@ fn write_portion(
     base: usize,
     labels: &[Option<Mark>; 1024],
     place: Place,
-    item: Item,
     r: Record,
     m: Measure,
 ) -> usize
     requires at { at < 2 ^ 33 }
     requires base { base < 2 ^ 32 }
     requires text { place.text < 2 ^ 32 }
-    requires item { item ≡ meaning r }
     requires measure { m ≡ measured (meaning r) place r }
     requires size { m.size ≤ 262144 }
     ensures out { out.new ≡ stored out.old at (portion section base labels.now place (Some r)) }
@@ -222,7 +217,7 @@ fn write_portion(
     ensures bound { result ≤ 262144 }
 {
     if is_same(place.section, section) {
-        write_record(out, at, base, labels, place, item, r, m);
+        write_record(out, at, base, labels, place, r, m);
         m.size
     } else {
         0
@@ -234,37 +229,29 @@ fn write_next(
     out: &mut [u8],
     at: usize,
     section: Section,
-    listing: &[u8],
-    index: usize,
     base: usize,
     labels: &[Option<Mark>; 1024],
     place: &mut Place,
+    found: Option<Record>,
 ) -> usize
     requires at { at < 2 ^ 33 }
-    requires within { 8 * index + 8 ≤ length listing.now }
     requires base { base < 2 ^ 32 }
     requires text { place.old.text < 2 ^ 32 }
     requires stored { place.old.«data» < 2 ^ 32 }
-    ensures out { out.new ≡ stored out.old at
-        (portion section base labels.now place.old (record_at listing.now index)) }
-    ensures size { result ≡ length (portion section base labels.now place.old (record_at listing.now index)) }
+    ensures out { out.new ≡ stored out.old at (portion section base labels.now place.old found) }
+    ensures size { result ≡ length (portion section base labels.now place.old found) }
     ensures bound { result ≤ 262144 }
-    ensures place { place.new ≡ after place.old (record_at listing.now index) }
+    ensures place { place.new ≡ after place.old found }
     ensures text { place.new.text ≤ place.old.text + 262144 }
     ensures stored { place.new.«data» ≤ place.old.«data» + 262144 }
 {
-    let Some(found) = survey(listing, index, place) else {
+    let Some(r) = found else {
         return 0;
     };
-    let Survey {
-        record,
-        item,
-        measure,
-    } = found;
-    let size = write_portion(
-        out, at, section, base, labels, *place, item, record, measure,
-    );
-    *place = move_on(*place, item, measure);
+    let item = r.meaning();
+    let m = measure(*place, item, r);
+    let size = write_portion(out, at, section, base, labels, *place, r, m);
+    *place = move_on(*place, item, m);
     size
 }
 
@@ -287,6 +274,14 @@ pub(crate) fn write_section(
     let mut at = from;
     let mut place = first_place();
     for index in 0..count {
-        at += write_next(out, at, section, listing, index, base, labels, &mut place);
+        at += write_next(
+            out,
+            at,
+            section,
+            base,
+            labels,
+            &mut place,
+            record_at(listing, index),
+        );
     }
 }

@@ -143,10 +143,8 @@ pub fn read(word: u16) -> Result<Instruction, Refusal>
 pub fn reads_interlocked(word: u16) -> bool
     ensures { result ≡ reads_interlocked word }
 {
-    let Fields { opcode, ra, .. } = split(word);
-    match (opcode, ra) {
-        (0x0..=0x2, _) | (0xD, _) => true,
-        (0x3..=0x4, 4..=5) => true,
-        _ => false,
+    match decode(word) {
+        Ok(instruction) => instruction.is_interlocked(),
+        Err(_) => false,
     }
 }

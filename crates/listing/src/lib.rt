@@ -2,7 +2,6 @@
 #![tactic(auto)]
 
 mod items;
-mod lasts;
 mod meaning;
 mod mending;
 mod operands;

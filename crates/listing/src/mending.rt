@@ -1,10 +1,9 @@
 // How a record's first word is kept out of hazard, and the words that the record then makes.
-ghost use Rattle.std.specs.Prelude.{◌≡◌, ◌≤◌, length, slice_index_or};
+ghost use Rattle.std.specs.Prelude.{◌≡◌, ◌-◌, ◌≤◌, length, slice_index_or};
 ghost use Rattle.listing.specs.Slots as spec;
-ghost use Rattle.listing.specs.Slots.{template, nop, slot_late, slot_swapped, slot_carrying, clash, mend_of, mended};
+ghost use Rattle.listing.specs.Slots.{template, nop, slot_late, slot_result, slot_swapped, slot_carrying, clash, mend_of, mended};
 
 use crate::items::{Body, Mend, Outline, Slot};
-use crate::lasts::last_result;
 use crate::operands::{swap, takes_carry};
 use crate::records::Record;
 use crate::templates::{NOP, template_len, template_slot, template_start};
@@ -15,6 +14,16 @@ fn late_in(s: Slot) -> u8
 {
     match s {
         Slot::Word(i) | Slot::Low(i) => i.late(),
+        _ => 0,
+    }
+}
+
+fn result_of(s: Slot) -> u8
+    ensures { result ≡ slot_result s }
+{
+    match s {
+        Slot::Word(i) | Slot::Low(i) => i.result(),
+        Slot::Call => 15,
         _ => 0,
     }
 }
@@ -68,6 +77,17 @@ fn mended_len(mend: Mend, b: Body, r: Record) -> usize
     }
 }
 
+// The last of a record's words, where the first word of its template is known.
+fn last_slot(b: Body, r: Record, mend: Mend, words: usize, first: Slot) -> Slot
+    requires { first ≡ slice_index_or (template b r) 0 nop }
+    ensures { result ≡ slice_index_or (mended mend (template b r)) (words - 1) nop }
+{
+    match (mend, words) {
+        (Mend::Keep, 0..=1) => first,
+        _ => b.slot(r, mend, words.saturating_sub(1)),
+    }
+}
+
 impl Body {
     // The words that the record makes after a word with that result, in outline.
     pub fn outline(self, r: Record, before: u8) -> Outline
@@ -77,10 +97,11 @@ impl Body {
         let first = template_start(self, r);
         let mend = mend_for(before, first);
         let words = mended_len(mend, self, r);
+        let last = last_slot(self, r, mend, words, first);
         Outline {
             mend,
             words,
-            result: last_result(self, r),
+            result: result_of(last),
             parted: is_clash(before, first) && is_carrying(first),
         }
     }

@@ -26,7 +26,7 @@ fn number_of(b: Body, r: Record) -> i64
     if b.negated { 0 - constant } else { constant }
 }
 
-pub(crate) fn number_bits(b: Body, r: Record) -> u32
+fn number_bits(b: Body, r: Record) -> u32
     ensures value { result ≡ bits16 (number b r) }
     ensures bound { result < 65536 }
 {

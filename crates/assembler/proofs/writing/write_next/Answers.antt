@@ -8,13 +8,12 @@ pub returns-in_default : goal.returns-in_default
 unfolding stored
 returns-in_default c =
     let p = c.args.place.now in
-    let gone = c.in_default.ensures in
-    let e = ap (portion c.args.section c.args.base c.args.labels.now p) gone in
+    let e = ap (portion c.args.section c.args.base c.args.labels.now p) c.in_default.is in
     record {
       out = sym (ap (stored c.args.out.now c.args.at) e);
       size = sym (ap length e);
       bound = omega arith;
-      place = sym (ap (after p) gone);
+      place = sym (ap (after p) c.in_default.is);
       text = omega arith;
       stored = omega arith;
     }

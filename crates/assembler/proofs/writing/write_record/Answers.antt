@@ -9,5 +9,5 @@ returns c =
     let v = c.value_or_zero-v.result in
     let fits : SFits w64 v = search rules in
     let e = to_z-of_z w64 v fits ∙ c.value_or_zero-v.ensures.value in
-    let i = c.requires.item in
+    let i = c.meaning.ensures in
     c.write_item.ensures ∙ (λ j. stored c.args.out.now c.args.at (bytes_of (i j) c.args.place c.args.r (e j)))

@@ -22,12 +22,12 @@ loop-index-preserved c =
     let from = c.args.from in
     let inv = c.loop-index.invariant in
     let before = section_bytes c.args.section c.args.base c.args.labels.now l i in
-    let more = portion c.args.section c.args.base c.args.labels.now c.loop-index.place (record_at l i) in
+    let more = portion c.args.section c.args.base c.args.labels.now c.loop-index.place c.record_at.result in
     let is : more ≡ portion c.args.section c.args.base c.args.labels.now (laid l i).place (record_at l i) =
-    λ j. portion c.args.section c.args.base c.args.labels.now (inv.0 j) (record_at l i) in
+    λ j. portion c.args.section c.args.base c.args.labels.now (inv.0 j) (c.record_at.ensures j) in
     let w = c.write_next-at in
     rw add-one (
-      w.ensures.place ∙ ap (λ p. after p (record_at l i)) inv.0 ∙ sym (place_more l i),
+      w.ensures.place ∙ (λ j. after (inv.0 j) (c.record_at.ensures j)) ∙ sym (place_more l i),
       w.ensures.out ∙ (λ j. stored (inv.1 j) (inv.2 j) more) ∙ sym (stored-++ xs from before more) ∙ ap (λ bs. stored xs from (before ++ bs)) is,
       omega (arith, length-append before more, w.ensures.size, inv.2, ap (λ bs. length (before ++ bs)) is),
       omega arith,

@@ -2,7 +2,7 @@ use Rattle.std.proofs.Common.{sym, arith}
 use Rattle.isa.specs.declared.instructions.Instruction.TheVariants as word
 use Rattle.listing.specs.declared.items.Slot.TheVariants as slot
 use Rattle.listing.specs.Slots.{nop, rest_slots}
-use Rattle.listing.proofs.LastWords.{first_repeated}
+use Rattle.listing.proofs.Repeated.{first_repeated}
 use Rattle.listing.proofs.templates.repeat_start.Goals as goal
 
 pub returns-then-count-gt0 : goal.returns-then-count-gt0
