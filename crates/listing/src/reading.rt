@@ -1,5 +1,7 @@
 // What eight bytes of a listing say.
 ghost use Rattle.std.specs.Prelude.{◌≡◌, ◌+◌, ◌<◌, ◌≤◌};
+ghost use Rattle.std.specs.Result.{result_ok};
+ghost use Rattle.isa.specs.Words.{register_function, immediate_function, branch_condition};
 ghost use Rattle.listing.specs.Packing.{ReadsBack};
 ghost use Rattle.listing.specs.Reading.{wide, sums, accesses, pseudos, directives, operation_of, record_with, read_record};
 
@@ -24,6 +26,24 @@ fn sum(n: u32) -> Option<Operation>
     }
 }
 
+fn register_function(n: u32) -> Option<RegisterFunction>
+    ensures { result ≡ result_ok (register_function n) }
+{
+    match n {
+        0..=5 => RegisterFunction::numbered(n as u8).ok(),
+        _ => None,
+    }
+}
+
+fn immediate_function(n: u32) -> Option<ImmediateFunction>
+    ensures { result ≡ result_ok (immediate_function n) }
+{
+    match n {
+        0..=10 => ImmediateFunction::numbered(n as u8).ok(),
+        _ => None,
+    }
+}
+
 fn access(n: u32) -> Option<Operation>
     ensures { result ≡ accesses n }
 {
@@ -34,6 +54,15 @@ fn access(n: u32) -> Option<Operation>
         3 => Some(Operation::Sb),
         4 => Some(Operation::Jal),
         5 => Some(Operation::Call),
+        _ => None,
+    }
+}
+
+fn branch_condition(n: u32) -> Option<Condition>
+    ensures { result ≡ result_ok (branch_condition n) }
+{
+    match n {
+        0..=15 => Condition::numbered(n as u8).ok(),
         _ => None,
     }
 }
@@ -77,10 +106,10 @@ fn operation(n: u32) -> Option<Operation>
 {
     match n {
         0..=2 => sum(n),
-        3..=8 => Some(Operation::Register(RegisterFunction::numbered((n - 3) as u8).ok()?)),
-        9..=19 => Some(Operation::Immediate(ImmediateFunction::numbered((n - 9) as u8).ok()?)),
+        3..=8 => Some(Operation::Register(register_function(n - 3)?)),
+        9..=19 => Some(Operation::Immediate(immediate_function(n - 9)?)),
         20..=31 => access(n - 20),
-        32..=47 => Some(Operation::Branch(Condition::numbered((n - 32) as u8).ok()?)),
+        32..=47 => Some(Operation::Branch(branch_condition(n - 32)?)),
         48..=63 => pseudo(n - 48),
         _ => directive(n - 64),
     }
