@@ -1,5 +1,5 @@
 // An instruction by its kind and the fields of its word.
-#[derive(Clone, Copy)]
+#[derive(Clone, Copy, PartialEq, Eq)]
 pub enum RegisterFunction {
     And,
     Or,
@@ -9,7 +9,7 @@ pub enum RegisterFunction {
     Sbc,
 }
 
-#[derive(Clone, Copy)]
+#[derive(Clone, Copy, PartialEq, Eq)]
 pub enum ImmediateFunction {
     Andi,
     Ori,
@@ -24,7 +24,7 @@ pub enum ImmediateFunction {
     Slxi,
 }
 
-#[derive(Clone, Copy)]
+#[derive(Clone, Copy, PartialEq, Eq)]
 pub enum Condition {
     Br = 0,
     Beq = 2,
@@ -43,7 +43,7 @@ pub enum Condition {
     Bgtu,
 }
 
-#[derive(Clone, Copy)]
+#[derive(Clone, Copy, PartialEq, Eq)]
 pub enum Instruction {
     Add {
         rd: u8,
@@ -108,7 +108,7 @@ pub enum Instruction {
 }
 
 // How the four bits of an immediate become sixteen where no prefix is pending.
-#[derive(Clone, Copy)]
+#[derive(Clone, Copy, PartialEq, Eq)]
 pub enum ImmediateForm {
     Signed,
     ByteOffset,
@@ -116,7 +116,7 @@ pub enum ImmediateForm {
 }
 
 // The four-bit immediate of an instruction.
-#[derive(Clone, Copy)]
+#[derive(Clone, Copy, PartialEq, Eq)]
 pub struct ImmediateField {
     pub form: ImmediateForm,
     pub bits: u8,

@@ -8,7 +8,7 @@ use crate::instructions::{Condition, ImmediateFunction, Instruction, RegisterFun
 use crate::refusals::Refusal;
 
 // The four fields of a word, from the most significant.
-#[derive(Clone, Copy)]
+#[derive(Clone, Copy, PartialEq, Eq)]
 struct Fields {
     opcode: u8,
     rd: u8,
@@ -30,11 +30,13 @@ fn split(word: u16) -> Fields
     }
 }
 
-impl RegisterFunction {
-    // The function of opcode 3 that has this number.
-    pub fn numbered(number: u8) -> Result<RegisterFunction, Refusal>
-        ensures { result ≡ register_function number }
-    {
+// The function of opcode 3 that has this number.
+impl TryFrom<u8> for RegisterFunction {
+    type Error = Refusal;
+
+    ghost try_from_gives = { λ number result. result ≡ register_function number };
+
+    fn try_from(number: u8) -> Result<Self, Refusal> {
         match number {
             0 => Ok(RegisterFunction::And),
             1 => Ok(RegisterFunction::Or),
@@ -47,11 +49,13 @@ impl RegisterFunction {
     }
 }
 
-impl ImmediateFunction {
-    // The function of opcode 4 that has this number.
-    pub fn numbered(number: u8) -> Result<ImmediateFunction, Refusal>
-        ensures { result ≡ immediate_function number }
-    {
+// The function of opcode 4 that has this number.
+impl TryFrom<u8> for ImmediateFunction {
+    type Error = Refusal;
+
+    ghost try_from_gives = { λ number result. result ≡ immediate_function number };
+
+    fn try_from(number: u8) -> Result<Self, Refusal> {
         match number {
             0 => Ok(ImmediateFunction::Andi),
             1 => Ok(ImmediateFunction::Ori),
@@ -69,11 +73,13 @@ impl ImmediateFunction {
     }
 }
 
-impl Condition {
-    // The condition that has this number; there is no condition 1.
-    pub fn numbered(number: u8) -> Result<Condition, Refusal>
-        ensures { result ≡ branch_condition number }
-    {
+// The condition that has this number; there is no condition 1.
+impl TryFrom<u8> for Condition {
+    type Error = Refusal;
+
+    ghost try_from_gives = { λ number result. result ≡ branch_condition number };
+
+    fn try_from(number: u8) -> Result<Self, Refusal> {
         match number {
             0 => Ok(Condition::Br),
             2 => Ok(Condition::Beq),
@@ -104,13 +110,13 @@ fn decode(word: u16) -> Result<Instruction, Refusal>
         (0x1, _) => Ok(Instruction::Sub { rd, ra, rb }),
         (0x2, _) => Ok(Instruction::Addi { rd, ra, imm: rb }),
         (0x3, 0..=5) => Ok(Instruction::Register {
-            function: RegisterFunction::numbered(ra)?,
+            function: RegisterFunction::try_from(ra)?,
             rd,
             rb,
         }),
         (0x3, _) => Err(Refusal::Unknown),
         (0x4, 0..=10) => Ok(Instruction::Immediate {
-            function: ImmediateFunction::numbered(ra)?,
+            function: ImmediateFunction::try_from(ra)?,
             rd,
             imm: rb,
         }),
@@ -121,7 +127,7 @@ fn decode(word: u16) -> Result<Instruction, Refusal>
         (0x9, _) => Ok(Instruction::Sb { rd, ra, imm: rb }),
         (0xA, _) => Ok(Instruction::Jal { rd, ra, imm: rb }),
         (0xB, _) if rd != 1 => Ok(Instruction::Branch {
-            condition: Condition::numbered(rd)?,
+            condition: Condition::try_from(rd)?,
             displacement: ra * 16 + rb,
         }),
         (0xB, _) => Err(Refusal::Unknown),

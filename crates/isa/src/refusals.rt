@@ -1,5 +1,5 @@
 // The refusals: one number and one word for each reason a call can have.
-#[derive(Clone, Copy, Debug)]
+#[derive(Clone, Copy, Debug, PartialEq, Eq)]
 pub enum Refusal {
     Ragged = 1,
     Long,

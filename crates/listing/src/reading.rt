@@ -30,7 +30,7 @@ fn register_function(n: u32) -> Option<RegisterFunction>
     ensures { result ≡ result_ok (register_function n) }
 {
     match n {
-        0..=5 => RegisterFunction::numbered(n as u8).ok(),
+        0..=5 => RegisterFunction::try_from(n as u8).ok(),
         _ => None,
     }
 }
@@ -39,7 +39,7 @@ fn immediate_function(n: u32) -> Option<ImmediateFunction>
     ensures { result ≡ result_ok (immediate_function n) }
 {
     match n {
-        0..=10 => ImmediateFunction::numbered(n as u8).ok(),
+        0..=10 => ImmediateFunction::try_from(n as u8).ok(),
         _ => None,
     }
 }
@@ -62,7 +62,7 @@ fn branch_condition(n: u32) -> Option<Condition>
     ensures { result ≡ result_ok (branch_condition n) }
 {
     match n {
-        0..=15 => Condition::numbered(n as u8).ok(),
+        0..=15 => Condition::try_from(n as u8).ok(),
         _ => None,
     }
 }
