@@ -1,5 +1,5 @@
 -- The refusals. Every call that refuses answers one of these, and no other number is ever sent back.
-use Rattle.std.specs.Prelude.{ℕ, List, [], ◌∷◌, codes}
+use Rattle.std.specs.Prelude.{ℕ, List, [], ◌∷◌, ◌++◌, codes, decimal}
 use Rattle.isa.specs.declared.refusals.Refusal.{Refusal}
 use Rattle.isa.specs.declared.refusals.Refusal.TheVariants.{Ragged, Long, Operation, Field, Constant, Misplaced, Twice, Parted, Big, Missing, Value, Reach, Short, Plan, Closed, Busy, Astray, Unknown, Reserved, Hazard, Bare, Count, Odd, Io, Trespass, Unkept, Register, Page}
 
@@ -64,6 +64,10 @@ refusal_word Trespass = codes "trespass"
 refusal_word Unkept = codes "unkept"
 refusal_word Register = codes "register"
 refusal_word Page = codes "page"
+
+-- how a refusal is shown: its number, a space and its word
+abbrev pub refusal_text : Refusal → List ℕ
+refusal_text e = decimal (refusal_number e) ++ codes " " ++ refusal_word e
 
 -- the refusals in the order of their numbers, which begin at 1
 abbrev pub refusals : List Refusal

@@ -8,7 +8,6 @@ mod laws;
 mod mnemonics;
 mod reader;
 mod refusals;
-mod refused;
 mod registers;
 mod writer;
 

@@ -16,17 +16,19 @@ struct Fields {
     rb: u8,
 }
 
-fn split(word: u16) -> Fields
-    ensures opcode { result.opcode ≡ word / 4096 }
-    ensures rd { result.rd ≡ word / 256 % 16 }
-    ensures ra { result.ra ≡ word / 16 % 16 }
-    ensures rb { result.rb ≡ word % 16 }
-{
-    Fields {
-        opcode: (word >> 12) as u8,
-        rd: (word >> 8 & 0xF) as u8,
-        ra: (word >> 4 & 0xF) as u8,
-        rb: (word & 0xF) as u8,
+impl Fields {
+    fn of(word: u16) -> Fields
+        ensures opcode { result.opcode ≡ word / 4096 }
+        ensures rd { result.rd ≡ word / 256 % 16 }
+        ensures ra { result.ra ≡ word / 16 % 16 }
+        ensures rb { result.rb ≡ word % 16 }
+    {
+        Fields {
+            opcode: (word / 0x1000) as u8,
+            rd: (word / 0x100 % 0x10) as u8,
+            ra: (word / 0x10 % 0x10) as u8,
+            rb: (word % 0x10) as u8,
+        }
     }
 }
 
@@ -104,37 +106,34 @@ impl TryFrom<u8> for Condition {
 fn decode(word: u16) -> Result<Instruction, Refusal>
     ensures { result ≡ read_word word }
 {
-    let Fields { opcode, rd, ra, rb } = split(word);
-    match (opcode, ra) {
-        (0x0, _) => Ok(Instruction::Add { rd, ra, rb }),
-        (0x1, _) => Ok(Instruction::Sub { rd, ra, rb }),
-        (0x2, _) => Ok(Instruction::Addi { rd, ra, imm: rb }),
-        (0x3, 0..=5) => Ok(Instruction::Register {
+    let Fields { opcode, rd, ra, rb } = Fields::of(word);
+    Ok(match opcode {
+        0x0 => Instruction::Add { rd, ra, rb },
+        0x1 => Instruction::Sub { rd, ra, rb },
+        0x2 => Instruction::Addi { rd, ra, imm: rb },
+        0x3 => Instruction::Register {
             function: RegisterFunction::try_from(ra)?,
             rd,
             rb,
-        }),
-        (0x3, _) => Err(Refusal::Unknown),
-        (0x4, 0..=10) => Ok(Instruction::Immediate {
+        },
+        0x4 => Instruction::Immediate {
             function: ImmediateFunction::try_from(ra)?,
             rd,
             imm: rb,
-        }),
-        (0x4, _) => Err(Refusal::Unknown),
-        (0x5, _) => Ok(Instruction::Lw { rd, ra, imm: rb }),
-        (0x6, _) => Ok(Instruction::Lb { rd, ra, imm: rb }),
-        (0x8, _) => Ok(Instruction::Sw { rd, ra, imm: rb }),
-        (0x9, _) => Ok(Instruction::Sb { rd, ra, imm: rb }),
-        (0xA, _) => Ok(Instruction::Jal { rd, ra, imm: rb }),
-        (0xB, _) if rd != 1 => Ok(Instruction::Branch {
+        },
+        0x5 => Instruction::Lw { rd, ra, imm: rb },
+        0x6 => Instruction::Lb { rd, ra, imm: rb },
+        0x8 => Instruction::Sw { rd, ra, imm: rb },
+        0x9 => Instruction::Sb { rd, ra, imm: rb },
+        0xA => Instruction::Jal { rd, ra, imm: rb },
+        0xB => Instruction::Branch {
             condition: Condition::try_from(rd)?,
             displacement: ra * 16 + rb,
-        }),
-        (0xB, _) => Err(Refusal::Unknown),
-        (0xC, _) => Ok(Instruction::Call { imm12: word % 4096 }),
-        (0xD, _) => Ok(Instruction::Imm { imm12: word % 4096 }),
-        (0x7, _) | (0xE.., _) => Err(Refusal::Unknown),
-    }
+        },
+        0xC => Instruction::Call { imm12: word % 4096 },
+        0xD => Instruction::Imm { imm12: word % 4096 },
+        0x7 | 0xE.. => return Err(Refusal::Unknown),
+    })
 }
 
 // A word's instruction, which is written as that word; or that the word is unknown.
@@ -149,8 +148,5 @@ pub fn read(word: u16) -> Result<Instruction, Refusal>
 pub fn reads_interlocked(word: u16) -> bool
     ensures { result ≡ reads_interlocked word }
 {
-    match decode(word) {
-        Ok(instruction) => instruction.is_interlocked(),
-        Err(_) => false,
-    }
+    decode(word).is_ok_and(|instruction| instruction.is_interlocked())
 }

@@ -61,20 +61,20 @@ impl Instruction {
     pub fn is_interlocked(self) -> bool
         ensures { result ≡ spec.interlocked self }
     {
-        match self {
+        matches!(
+            self,
             Instruction::Add { .. }
-            | Instruction::Sub { .. }
-            | Instruction::Addi { .. }
-            | Instruction::Imm { .. } => true,
-            Instruction::Register {
-                function: RegisterFunction::Adc | RegisterFunction::Sbc,
-                ..
-            } => true,
-            Instruction::Immediate {
-                function: ImmediateFunction::Adci | ImmediateFunction::Sbci,
-                ..
-            } => true,
-            _ => false,
-        }
+                | Instruction::Sub { .. }
+                | Instruction::Addi { .. }
+                | Instruction::Register {
+                    function: RegisterFunction::Adc | RegisterFunction::Sbc,
+                    ..
+                }
+                | Instruction::Immediate {
+                    function: ImmediateFunction::Adci | ImmediateFunction::Sbci,
+                    ..
+                }
+                | Instruction::Imm { .. }
+        )
     }
 }

@@ -6,12 +6,13 @@ ghost use Rattle.isa.specs.Words.{packed, packed_low, write_word};
 use crate::instructions::Instruction;
 use crate::refusals::Refusal;
 
+// Four numbers, each where its field stands in the word: a struct's literal would take five lines at each call.
 fn pack(opcode: u8, rd: u8, ra: u8, rb: u8) -> Result<u16, Refusal>
     requires { opcode < 16 }
     ensures { result ≡ packed opcode rd ra rb }
 {
     if rd < 16 && ra < 16 && rb < 16 {
-        Ok(opcode as u16 * 4096 + rd as u16 * 256 + ra as u16 * 16 + rb as u16)
+        Ok(u16::from_be_bytes([opcode * 16 + rd, ra * 16 + rb]))
     } else {
         Err(Refusal::Field)
     }

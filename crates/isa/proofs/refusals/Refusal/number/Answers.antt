@@ -6,8 +6,8 @@ use Rattle.isa.specs.Refusals.{refusal_number, refusals}
 use Rattle.isa.proofs.Numbers.{listed}
 use Rattle.isa.proofs.refusals.Refusal.number.Goals as goal
 
-pub returns : goal.returns
-returns c =
+pub returns-clause-own : goal.returns-clause-own
+returns-clause-own c =
     let e = c.args.self in
     let value : tag_of the_type e + 1 ≡ refusal_number e = search rules in
-    record { value = value; own = ap (λ n. get_or refusals (n - 1) Page) value ∙ listed e }
+    ap (λ n. get_or refusals (n - 1) Page) value ∙ listed e
