@@ -137,6 +137,7 @@ fn decode(word: u16) -> Result<Instruction, Refusal>
 }
 
 // A word's instruction, which is written as that word; or that the word is unknown.
+#[tactic(auto, using(crate::proofs::Back::reads_back))]
 pub fn read(word: u16) -> Result<Instruction, Refusal>
     ensures value { result ≡ read_word word }
     ensures back { ReadsBack word result }

@@ -54,6 +54,7 @@ fn encode(instruction: Instruction) -> Result<u16, Refusal>
 }
 
 // An instruction's word, which reads as that instruction; or a refusal where a field is too large.
+#[tactic(auto, using(crate::proofs::Back::writes_back))]
 pub fn write(instruction: Instruction) -> Result<u16, Refusal>
     ensures value { result ≡ write_word instruction }
     ensures back { WritesBack instruction result }
