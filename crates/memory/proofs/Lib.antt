@@ -1,4 +1,4 @@
 pub mod Extent
-pub mod Images
+pub mod Addresses
 pub mod Frames
 pub mod Lent

@@ -28,22 +28,19 @@ impl<'a> Memory for FlatMemory<'a> {
     ghost loan = { λ m. flat_loan m.buffer.ghost_name m.buffer.now };
 
     fn read(&self, address: u16) -> u8 {
-        let at = address as usize;
-        if at < self.buffer.len() {
-            self.buffer[at]
-        } else {
-            0xFF
-        }
+        self.buffer
+            .get(usize::from(address))
+            .copied()
+            .unwrap_or(0xFF)
     }
 
     fn is_open(&self, address: u16) -> bool {
-        (address as usize) < self.buffer.len()
+        usize::from(address) < self.buffer.len()
     }
 
     fn store(&mut self, address: u16, value: u8) {
-        let at = address as usize;
-        if at < self.buffer.len() {
-            self.buffer[at] = value;
+        if self.is_open(address) {
+            self.buffer[usize::from(address)] = value;
         }
     }
 }

@@ -1,6 +1,6 @@
 // Memory that lies over a buffer through a page table.
 ghost use Rattle.std.specs.Prelude.{◌≡◌};
-ghost use Rattle.memory.specs.Pages.{mapped, mapped_loan, place};
+ghost use Rattle.memory.specs.Pages.{mapped, mapped_loan};
 ghost use Rattle.memory.specs.Lawful.{mapped_lawful};
 
 use crate::interface::Memory;
@@ -23,14 +23,6 @@ impl<'a> MappedMemory<'a> {
     }
 }
 
-// Where an address lies in the buffer.
-fn place_of(table: &PageTable, address: u16) -> usize
-    ensures { result ≡ place table.now.words address }
-{
-    let word = table.word(address as usize / 0x1000);
-    (word as usize % 0x4000) * 0x1000 + address as usize % 0x1000
-}
-
 impl<'a> Memory for MappedMemory<'a> {
     ghost means = { λ m. mapped m.table.words m.buffer.now };
 
@@ -39,24 +31,18 @@ impl<'a> Memory for MappedMemory<'a> {
     ghost loan = { λ m. mapped_loan m.buffer.ghost_name m.table.words m.buffer.now };
 
     fn read(&self, address: u16) -> u8 {
-        let at = place_of(&self.table, address);
-        if at < self.buffer.len() {
-            self.buffer[at]
-        } else {
-            0xFF
-        }
+        let place = self.table.place(address);
+        self.buffer.get(place).copied().unwrap_or(0xFF)
     }
 
     fn is_open(&self, address: u16) -> bool {
-        let word = self.table.word(address as usize / 0x1000);
-        word >= 0x8000 && place_of(&self.table, address) < self.buffer.len()
+        self.table.is_writable(address) && self.table.place(address) < self.buffer.len()
     }
 
     fn store(&mut self, address: u16, value: u8) {
-        let word = self.table.word(address as usize / 0x1000);
-        let at = place_of(&self.table, address);
-        if word >= 0x8000 && at < self.buffer.len() {
-            self.buffer[at] = value;
+        if self.is_open(address) {
+            let place = self.table.place(address);
+            self.buffer[place] = value;
         }
     }
 }

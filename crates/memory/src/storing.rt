@@ -27,11 +27,11 @@ pub fn store_image<M: Memory>(memory: &mut M, image: &[u8])
     ensures meaning { M.Memory.means memory.new ≡ stored_image (M.Memory.means memory.old) image.now }
     ensures lent { M.Memory.loan memory.new ≡ M.Memory.loan memory.old }
 {
-    for address in 0..=u16::MAX {
-        let Some(value) = image.get(address as usize) else {
+    for (at, &value) in image.iter().enumerate() {
+        let Ok(address) = u16::try_from(at) else {
             return;
         };
-        memory.store(address, *value);
+        memory.store(address, value);
     }
 }
 
@@ -45,10 +45,5 @@ fn agree_at<M: Memory, N: Memory>(first: &M, second: &N, address: u16) -> bool
 pub fn agree<M: Memory, N: Memory>(first: &M, second: &N) -> bool
     ensures { Decides result (M.Memory.means first.now ≡ N.Memory.means second.now) }
 {
-    for address in 0..=u16::MAX {
-        if !agree_at(first, second, address) {
-            return false;
-        }
-    }
-    true
+    (0..=u16::MAX).all(|address| agree_at(first, second, address))
 }

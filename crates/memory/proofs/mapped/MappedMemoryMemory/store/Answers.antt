@@ -4,14 +4,14 @@ use Rattle.memory.proofs.Extent.{meaning_ext, loan_ext}
 use Rattle.memory.proofs.Frames.{apart_kept}
 use Rattle.memory.proofs.mapped.MappedMemoryMemory.store.Goals as goal
 
-pub returns-then-at-self : goal.returns-then-at-self
-returns-then-at-self c =
+pub returns-then-is_open-clause-meaning : goal.returns-then-is_open-clause-meaning
+returns-then-is_open-clause-meaning c = meaning_ext _ _ (λ a. search rules) (λ a. search rules)
+
+pub returns-then-is_open-clause-lent : goal.returns-then-is_open-clause-lent
+returns-then-is_open-clause-lent c =
     let words = c.args.self.now.table.words in
     let buffer = c.args.self.now.buffer.now in
     let small : c.args.address < 65536 = search rules in
-    record {
-      meaning = meaning_ext _ _ (λ a. search rules) (λ a. search rules);
-      lent = loan_ext _ _ refl refl (search rules)
-          (λ p. ap (λ at. cond (named words (p / 4096)) 0 (get_or (set buffer at c.args.value) p 0)) c.place_of-at.ensures
-          ∙ apart_kept words buffer c.args.address c.args.value p small);
-    }
+    loan_ext _ _ refl refl (search rules)
+    (λ p. ap (λ at. cond (named words (p / 4096)) 0 (get_or (set buffer at c.args.value) p 0)) c.place-place.ensures
+    ∙ apart_kept words buffer c.args.address c.args.value p small)
