@@ -1,21 +1,11 @@
 // Flat and mapped memory at their edges.
+use isa::Refusal;
 use memory::{FlatMemory, MappedMemory, Memory, PageTable, agree, store_word};
 use std::test::Fail;
 
 // Page i at frame i, all open.
 fn straight() -> [u16; 16] {
-    let mut words = [0x8000; 16];
-    for i in 0..16 {
-        words[i] = 0x8000 + i as u16;
-    }
-    words
-}
-
-fn table(words: [u16; 16]) -> Result<PageTable, Fail> {
-    match PageTable::new(words) {
-        Ok(table) => Ok(table),
-        Err(refusal) => Err(Fail::new(refusal.word())),
-    }
+    std::array::from_fn(|page| 0x8000 + page as u16)
 }
 
 #[test]
@@ -38,9 +28,9 @@ fn page_tables_refuse_what_is_malformed(rt: HostRuntime) {
     bit_14[0] = 0xC000;
     let mut frame_32 = straight();
     frame_32[15] = 32;
-    assert!(rt; PageTable::new(equal).is_err());
-    assert!(rt; PageTable::new(bit_14).is_err());
-    assert!(rt; PageTable::new(frame_32).is_err());
+    assert_eq!(rt; PageTable::new(equal), Err(Refusal::Page));
+    assert_eq!(rt; PageTable::new(bit_14), Err(Refusal::Page));
+    assert_eq!(rt; PageTable::new(frame_32), Err(Refusal::Page));
     assert!(rt; PageTable::new(straight()).is_ok());
 }
 
@@ -49,7 +39,7 @@ fn mapped_memory_goes_through_its_table(rt: HostRuntime) -> Result<(), Fail> {
     let mut words = straight();
     words[0] = 0x8001;
     words[1] = 0x0000;
-    let table = table(words)?;
+    let table = PageTable::new(words)?;
     let mut buffer = [7u8; 8192];
     let mut memory = MappedMemory::new(table, &mut buffer);
     memory.store(5, 9);
@@ -66,7 +56,7 @@ fn mapped_memory_goes_through_its_table(rt: HostRuntime) -> Result<(), Fail> {
 fn memories_of_two_types_agree(rt: HostRuntime) -> Result<(), Fail> {
     let mut first = [7u8; 4096];
     let mut second = [7u8; 4096];
-    let table = table(straight())?;
+    let table = PageTable::new(straight())?;
     let mut flat = FlatMemory::new(&mut first);
     let mut mapped = MappedMemory::new(table, &mut second);
     assert!(rt; agree(&flat, &mapped));

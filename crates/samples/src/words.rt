@@ -2,17 +2,10 @@
 use isa::{Condition, ImmediateField, ImmediateForm, Instruction, read, write};
 use std::test::Fail;
 
-fn written(instruction: Instruction) -> Result<u16, Fail> {
-    match write(instruction) {
-        Ok(word) => Ok(word),
-        Err(refusal) => Err(Fail::new(refusal.word())),
-    }
-}
-
 #[test]
 fn words_by_hand(rt: HostRuntime) -> Result<(), Fail> {
     assert_eq!(rt;
-        written(Instruction::Addi {
+        write(Instruction::Addi {
             rd: 1,
             ra: 1,
             imm: 4,
@@ -20,7 +13,7 @@ fn words_by_hand(rt: HostRuntime) -> Result<(), Fail> {
         0x2114
     );
     assert_eq!(rt;
-        written(Instruction::Lw {
+        write(Instruction::Lw {
             rd: 2,
             ra: 1,
             imm: 15,
@@ -28,7 +21,7 @@ fn words_by_hand(rt: HostRuntime) -> Result<(), Fail> {
         0x521F
     );
     assert_eq!(rt;
-        written(Instruction::Addi {
+        write(Instruction::Addi {
             rd: 0,
             ra: 5,
             imm: 15,
@@ -36,13 +29,13 @@ fn words_by_hand(rt: HostRuntime) -> Result<(), Fail> {
         0x205F
     );
     assert_eq!(rt;
-        written(Instruction::Branch {
+        write(Instruction::Branch {
             condition: Condition::Br,
             displacement: 0xFE,
         })?,
         0xB0FE
     );
-    assert_eq!(rt; written(Instruction::Imm { imm12: 0x123 })?, 0xD123);
+    assert_eq!(rt; write(Instruction::Imm { imm12: 0x123 })?, 0xD123);
     Ok(())
 }
 
@@ -51,7 +44,7 @@ fn each_word_is_written_back_or_unknown(rt: HostRuntime) -> Result<(), Fail> {
     let mut unknown = 0u32;
     for word in 0..=u16::MAX {
         match read(word) {
-            Ok(instruction) => assert_eq!(rt; written(instruction)?, word),
+            Ok(instruction) => assert_eq!(rt; write(instruction)?, word),
             Err(refusal) => {
                 assert_eq!(rt; refusal.number(), 18);
                 unknown = unknown.saturating_add(1);
