@@ -15,7 +15,7 @@ pub fn store_image_in(buffer: &mut [u8], image: &[u8])
     store_image(&mut flat, image);
 }
 
-// Stores an image in a buffer of frames through mapped memory.
+// Stores an image in a buffer of frames through mapped memory: its promise speaks of page words and frames, which flat memory has not.
 pub fn store_mapped_image_in(table: PageTable, buffer: &mut [u8], image: &[u8])
     ensures { MappedBytes table.words image.now buffer.old buffer.new }
 {

@@ -6,6 +6,7 @@ ghost use Rattle.memory.specs.Lawful.{mapped_lawful};
 use crate::interface::Memory;
 use crate::page_tables::PageTable;
 
+// Apart from FlatMemory: one struct over a trait of places was longer, with four ghost members and two laws for three short methods.
 #[derive(Drop)]
 pub struct MappedMemory<'a> {
     table: PageTable,
