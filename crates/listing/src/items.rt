@@ -1,7 +1,8 @@
 // What a record means, and the words that it makes.
+use crate::records::Record;
 use isa::{Condition, ImmediateForm, ImmediateFunction, Instruction};
 
-#[derive(Clone, Copy)]
+#[derive(Clone, Copy, PartialEq, Eq)]
 pub enum Section {
     Text,
     Data,
@@ -35,6 +36,13 @@ pub struct Body {
     pub first: First,
     pub rest: Rest,
     pub negated: bool,
+}
+
+// A record with the words that its operation makes.
+#[derive(Clone, Copy)]
+pub struct Template {
+    pub body: Body,
+    pub record: Record,
 }
 
 #[derive(Clone, Copy)]

@@ -11,6 +11,6 @@ mod records;
 mod rules;
 mod templates;
 
-pub use items::{Body, First, Item, Mend, Outline, Rest, Section, Slot};
+pub use items::{Body, First, Item, Mend, Outline, Rest, Section, Slot, Template};
 pub use operands::set_immediate;
 pub use records::{Operation, Record};

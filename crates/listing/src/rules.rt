@@ -1,5 +1,6 @@
 // Which fields an operation uses, and which constants it takes.
 ghost use Rattle.std.specs.Prelude.{◌≡◌};
+ghost use Rattle.std.specs.Result.{result_err};
 ghost use Rattle.listing.specs.declared.records.Operation.TheVariants.{Immediate};
 ghost use Rattle.listing.specs.Rules as spec;
 ghost use Rattle.listing.specs.Rules.{is_unused, allowed, is_zero, good_fields, good_constant, rule_refusal};
@@ -130,18 +131,18 @@ fn is_good_constant(constants: Constants, constant: i32) -> bool
 }
 
 impl Record {
-    // Why the record is refused wherever it stands: a field against the rules, or a constant outside
-    // its operation's set.
-    pub fn refusal(self) -> Option<Refusal>
-        ensures { result ≡ rule_refusal self }
+    // Refuses a record that is wrong wherever it stands: a field against the rules, or a constant
+    // outside its operation's set.
+    pub fn check(self) -> Result<(), Refusal>
+        ensures { result_err result ≡ rule_refusal self }
     {
         let used = uses_of(self.operation);
         if !has_good_fields(used, self) {
-            Some(Refusal::Field)
+            Err(Refusal::Field)
         } else if !is_good_constant(used.constant, self.constant) {
-            Some(Refusal::Constant)
+            Err(Refusal::Constant)
         } else {
-            None
+            Ok(())
         }
     }
 }
