@@ -10,7 +10,7 @@ pub enum Section {
 
 // The words that a record begins with: a known word, an instruction with the record's value as its
 // immediate, a shift for each count, a move between registers, a branch or a call.
-#[derive(Clone, Copy)]
+#[derive(Clone, Copy, PartialEq, Eq)]
 pub enum First {
     Word(Instruction),
     Field(ImmediateForm, Instruction),
@@ -21,8 +21,9 @@ pub enum First {
 }
 
 // The words that it ends with: they extend the low byte of a register with zeros, with its sign where
-// the rest is 0, or with its sign whatever the rest is.
-#[derive(Clone, Copy)]
+// the rest is 0, or with its sign whatever the rest is. `Nothing` is an ending of no words: an Option
+// would put a case before each match.
+#[derive(Clone, Copy, PartialEq, Eq)]
 pub enum Rest {
     Nothing,
     Zero(u8),
@@ -31,7 +32,7 @@ pub enum Rest {
 }
 
 // The words of a record. Negated: its number is the negated value.
-#[derive(Clone, Copy)]
+#[derive(Clone, Copy, PartialEq, Eq)]
 pub struct Body {
     pub first: First,
     pub rest: Rest,
@@ -39,13 +40,13 @@ pub struct Body {
 }
 
 // A record with the words that its operation makes.
-#[derive(Clone, Copy)]
+#[derive(Clone, Copy, PartialEq, Eq)]
 pub struct Template {
     pub body: Body,
     pub record: Record,
 }
 
-#[derive(Clone, Copy)]
+#[derive(Clone, Copy, PartialEq, Eq)]
 pub enum Item {
     Words(Body),
     Byte,
@@ -57,7 +58,7 @@ pub enum Item {
 
 // A word to be made: known, a prefix, an instruction that wants the low bits of the record's number,
 // a branch or a call.
-#[derive(Clone, Copy)]
+#[derive(Clone, Copy, PartialEq, Eq)]
 pub enum Slot {
     Word(Instruction),
     Prefix,
@@ -67,7 +68,8 @@ pub enum Slot {
 }
 
 // How a record's first word is kept out of hazard: as it is, by another word in its place, or by a nop.
-#[derive(Clone, Copy)]
+// `Keep` is as good an answer as the others, so this is no Option.
+#[derive(Clone, Copy, PartialEq, Eq)]
 pub enum Mend {
     Keep,
     Swap(Instruction),
@@ -76,7 +78,7 @@ pub enum Mend {
 
 // What the layout wants to know of a record's words: how the first is mended, how many there are, the
 // register that the last one writes, and whether adc or sbc is in hazard.
-#[derive(Clone, Copy)]
+#[derive(Clone, Copy, PartialEq, Eq)]
 pub struct Outline {
     pub mend: Mend,
     pub words: usize,

@@ -1,11 +1,11 @@
 // What a record means.
 ghost use Rattle.std.specs.Prelude.{◌≡◌};
-ghost use Rattle.isa.specs.declared.instructions.ImmediateForm.TheVariants as form;
 ghost use Rattle.listing.specs.Meaning as spec;
 
 use crate::items::{Body, First, Item, Rest, Section};
+use crate::operands::NOP;
 use crate::records::{Operation, Record};
-use isa::{ImmediateForm, ImmediateFunction, Instruction, RegisterFunction};
+use isa::{ImmediateForm, ImmediateFunction, Instruction};
 
 // Words that are made without negating the value.
 fn words(first: First, rest: Rest) -> Item
@@ -30,22 +30,10 @@ fn plain(i: Instruction) -> Item
     alone(First::Word(i))
 }
 
-fn signed(i: Instruction) -> Item
-    ensures { result ≡ spec.immediate form.Signed i }
+fn immediate(form: ImmediateForm, i: Instruction) -> Item
+    ensures { result ≡ spec.immediate form i }
 {
-    alone(First::Field(ImmediateForm::Signed, i))
-}
-
-fn byte_offset(i: Instruction) -> Item
-    ensures { result ≡ spec.immediate form.ByteOffset i }
-{
-    alone(First::Field(ImmediateForm::ByteOffset, i))
-}
-
-fn word_offset(i: Instruction) -> Item
-    ensures { result ≡ spec.immediate form.WordOffset i }
-{
-    alone(First::Field(ImmediateForm::WordOffset, i))
+    alone(First::Field(form, i))
 }
 
 fn negated_sum(rd: u8, ra: u8) -> Item
@@ -72,27 +60,23 @@ fn jump(ra: u8) -> Instruction
     Instruction::Jal { rd: 0, ra, imm: 0 }
 }
 
-fn nop() -> Instruction
-    ensures { result ≡ spec.no_operation }
-{
-    Instruction::Register {
-        function: RegisterFunction::And,
-        rd: 0,
-        rb: 0,
-    }
-}
-
 fn function_item(function: ImmediateFunction, rd: u8) -> Item
     ensures { result ≡ spec.function_item function rd }
 {
-    if (function as u8) < 6 {
-        signed(Instruction::Immediate {
-            function,
-            rd,
-            imm: 0,
-        })
-    } else {
-        alone(First::Repeat(function, rd))
+    match function {
+        ImmediateFunction::Srli
+        | ImmediateFunction::Srai
+        | ImmediateFunction::Slli
+        | ImmediateFunction::Srxi
+        | ImmediateFunction::Slxi => alone(First::Repeat(function, rd)),
+        _ => immediate(
+            ImmediateForm::Signed,
+            Instruction::Immediate {
+                function,
+                rd,
+                imm: 0,
+            },
+        ),
     }
 }
 
@@ -105,21 +89,39 @@ impl Record {
         match self.operation {
             Operation::Add => plain(Instruction::Add { rd, ra, rb }),
             Operation::Sub => plain(Instruction::Sub { rd, ra, rb }),
-            Operation::Addi | Operation::Lea => signed(Instruction::Addi { rd, ra, imm: 0 }),
+            Operation::Addi | Operation::Lea => immediate(
+                ImmediateForm::Signed,
+                Instruction::Addi { rd, ra, imm: 0 },
+            ),
             Operation::Register(function) => plain(Instruction::Register { function, rd, rb }),
             Operation::Immediate(function) => function_item(function, rd),
-            Operation::Lw => word_offset(Instruction::Lw { rd, ra, imm: 0 }),
-            Operation::Lb => byte_offset(Instruction::Lb { rd, ra, imm: 0 }),
-            Operation::Sw => word_offset(Instruction::Sw { rd, ra, imm: 0 }),
-            Operation::Sb => byte_offset(Instruction::Sb { rd, ra, imm: 0 }),
-            Operation::Jal => word_offset(Instruction::Jal { rd, ra, imm: 0 }),
+            Operation::Lw => immediate(
+                ImmediateForm::WordOffset,
+                Instruction::Lw { rd, ra, imm: 0 },
+            ),
+            Operation::Lb => immediate(
+                ImmediateForm::ByteOffset,
+                Instruction::Lb { rd, ra, imm: 0 },
+            ),
+            Operation::Sw => immediate(
+                ImmediateForm::WordOffset,
+                Instruction::Sw { rd, ra, imm: 0 },
+            ),
+            Operation::Sb => immediate(
+                ImmediateForm::ByteOffset,
+                Instruction::Sb { rd, ra, imm: 0 },
+            ),
+            Operation::Jal => immediate(
+                ImmediateForm::WordOffset,
+                Instruction::Jal { rd, ra, imm: 0 },
+            ),
             Operation::Call => alone(First::Call),
             Operation::Branch(condition) => alone(First::Branch(condition)),
             Operation::Cmp => plain(Instruction::Sub { rd: 0, ra, rb }),
             Operation::Cmpi => negated_sum(0, ra),
-            Operation::J => word_offset(jump(ra)),
+            Operation::J => immediate(ImmediateForm::WordOffset, jump(ra)),
             Operation::Lbs => signed_load(rd, ra),
-            Operation::Nop => plain(nop()),
+            Operation::Nop => plain(NOP),
             Operation::Mov => plain(Instruction::Add { rd, ra, rb: 0 }),
             Operation::Ret => plain(jump(15)),
             Operation::Reti => plain(jump(14)),

@@ -4,8 +4,7 @@ ghost use Rattle.listing.specs.Slots as spec;
 ghost use Rattle.listing.specs.Slots.{template, nop, slot_late, slot_result, slot_swapped, slot_carrying, clash, mend_of, mended};
 
 use crate::items::{Mend, Outline, Slot, Template};
-use crate::operands::{swap, takes_carry};
-use crate::templates::NOP;
+use crate::operands::{NOP, swap, takes_carry};
 use isa::Instruction;
 
 impl Slot {
@@ -57,7 +56,7 @@ impl Slot {
         ensures { result ≡ mend_of before self }
     {
         if self.clashes(before) {
-            self.swapped().map_or(Mend::Nop, |i| Mend::Swap(i))
+            self.swapped().map_or(Mend::Nop, Mend::Swap)
         } else {
             Mend::Keep
         }
@@ -114,7 +113,7 @@ impl Template {
             (Mend::Swap(i), 0) => Slot::Word(i),
             (Mend::Swap(_), 1..) => self.unmended_slot(k),
             (Mend::Nop, 1..) => self.unmended_slot(k - 1),
-            (Mend::Nop, _) => NOP,
+            (Mend::Nop, _) => Slot::Word(NOP),
         }
     }
 }

@@ -4,6 +4,13 @@ ghost use Rattle.listing.specs.Operands.{swapped, carrying, with_immediate};
 
 use isa::{Instruction, RegisterFunction};
 
+// and r0,r0, which does nothing.
+pub(crate) const NOP: Instruction = Instruction::Register {
+    function: RegisterFunction::And,
+    rd: 0,
+    rb: 0,
+};
+
 // The same sum with its operands swapped, where they differ.
 pub(crate) fn swap(i: Instruction) -> Option<Instruction>
     ensures { result ≡ swapped i }
@@ -22,13 +29,13 @@ pub(crate) fn swap(i: Instruction) -> Option<Instruction>
 pub(crate) fn takes_carry(i: Instruction) -> bool
     ensures { result ≡ carrying i }
 {
-    match i {
+    matches!(
+        i,
         Instruction::Register {
             function: RegisterFunction::Adc | RegisterFunction::Sbc,
             ..
-        } => true,
-        _ => false,
-    }
+        }
+    )
 }
 
 // The instruction with another immediate, where it has one.

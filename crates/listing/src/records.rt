@@ -1,7 +1,7 @@
 // A record and the fields that its operation uses.
 use isa::{Condition, ImmediateFunction, RegisterFunction};
 
-#[derive(Clone, Copy)]
+#[derive(Clone, Copy, PartialEq, Eq)]
 pub enum Operation {
     Add,
     Sub,
@@ -35,21 +35,21 @@ pub enum Operation {
     Label,
 }
 
-#[derive(Clone, Copy)]
+#[derive(Clone, Copy, PartialEq, Eq)]
 pub struct Record {
     pub operation: Operation,
     pub rd: u8,
     pub ra: u8,
     pub rb: u8,
+    // Two fields and not an Option, so that each value of a byte can be given to `write`, which refuses it.
     pub reference: u8,
     pub label: u16,
     pub constant: i32,
 }
 
 // The constants that an operation takes.
-#[derive(Clone, Copy)]
+#[derive(Clone, Copy, PartialEq, Eq)]
 pub enum Constants {
-    Unused,
     Any,
     Byte,
     Count,
@@ -57,13 +57,13 @@ pub enum Constants {
     Alignment,
 }
 
-// The fields that an operation uses.
-#[derive(Clone, Copy)]
+// The fields that an operation uses; where it uses the constant, which ones it takes.
+#[derive(Clone, Copy, PartialEq, Eq)]
 pub struct Uses {
     pub rd: bool,
     pub ra: bool,
     pub rb: bool,
-    pub constant: Constants,
+    pub constant: Option<Constants>,
     pub reference: bool,
     pub label: bool,
 }

@@ -6,14 +6,8 @@ ghost use Rattle.listing.specs.Slots as spec;
 ghost use Rattle.listing.specs.Slots.{number, fits, field_of, first_slots, rest_slots, template, nop};
 
 use crate::items::{First, Rest, Slot, Template};
-use crate::operands::set_immediate;
-use isa::{ImmediateForm, ImmediateFunction, Instruction, RegisterFunction};
-
-pub(crate) const NOP: Slot = Slot::Word(Instruction::Register {
-    function: RegisterFunction::And,
-    rd: 0,
-    rb: 0,
-});
+use crate::operands::{NOP, set_immediate};
+use isa::{ImmediateForm, ImmediateFunction, Instruction};
 
 impl Rest {
     fn len(self) -> usize
@@ -52,7 +46,7 @@ impl Rest {
                 ra: rd,
                 imm: 0,
             }),
-            _ => NOP,
+            _ => Slot::Word(NOP),
         }
     }
 }
@@ -82,9 +76,9 @@ impl Template {
     {
         let number = self.number();
         match form {
-            ImmediateForm::Signed => number >= -8 && number <= 7,
-            ImmediateForm::ByteOffset => number >= 0 && number <= 15,
-            ImmediateForm::WordOffset => number >= 0 && number <= 30 && self.number_bits() % 2 == 0,
+            ImmediateForm::Signed => matches!(number, -8..=7),
+            ImmediateForm::ByteOffset => matches!(number, 0..=15),
+            ImmediateForm::WordOffset => matches!(number, 0..=30) && number % 2 == 0,
         }
     }
 
