@@ -21,46 +21,14 @@ use Rattle.listing.specs.Packing.{operation_number, head_of, wide_bytes, record_
 abbrev Numbered : Operation → Type 0
 Numbered o = (operation_number o < 128) × (operation_of (operation_number o) ≡ Some o)
 
-register_numbered : (f : RegisterFunction) → Numbered (Register f)
-register_numbered = elim [ And ↦ (lit< tt, refl) | Or ↦ (lit< tt, refl) | Xor ↦ (lit< tt, refl) | Andn ↦ (lit< tt, refl) | Adc ↦ (lit< tt, refl) | Sbc ↦ (lit< tt, refl) ]
-
-immediate_numbered : (f : ImmediateFunction) → Numbered (Immediate f)
-immediate_numbered = elim [ Andi ↦ (lit< tt, refl) | Ori ↦ (lit< tt, refl) | Xori ↦ (lit< tt, refl) | Andni ↦ (lit< tt, refl) | Adci ↦ (lit< tt, refl) | Sbci ↦ (lit< tt, refl) | Srli ↦ (lit< tt, refl) | Srai ↦ (lit< tt, refl) | Slli ↦ (lit< tt, refl) | Srxi ↦ (lit< tt, refl) | Slxi ↦ (lit< tt, refl) ]
-
-branch_numbered : (c : Condition) → Numbered (Branch c)
-branch_numbered = elim [ Br ↦ (lit< tt, refl) | Beq ↦ (lit< tt, refl) | Bne ↦ (lit< tt, refl) | Bc ↦ (lit< tt, refl) | Bnc ↦ (lit< tt, refl) | Bv ↦ (lit< tt, refl) | Bnv ↦ (lit< tt, refl) | Blt ↦ (lit< tt, refl) | Bge ↦ (lit< tt, refl) | Ble ↦ (lit< tt, refl) | Bgt ↦ (lit< tt, refl) | Bltu ↦ (lit< tt, refl) | Bgeu ↦ (lit< tt, refl) | Bleu ↦ (lit< tt, refl) | Bgtu ↦ (lit< tt, refl) ]
-
 numbered : (o : Operation) → Numbered o
-numbered Add = (lit< tt, refl)
-numbered Sub = (lit< tt, refl)
-numbered Addi = (lit< tt, refl)
-numbered (Register f) = register_numbered f
-numbered (Immediate f) = immediate_numbered f
-numbered Lw = (lit< tt, refl)
-numbered Lb = (lit< tt, refl)
-numbered Sw = (lit< tt, refl)
-numbered Sb = (lit< tt, refl)
-numbered Jal = (lit< tt, refl)
-numbered Call = (lit< tt, refl)
-numbered (Branch c) = branch_numbered c
-numbered Cmp = (lit< tt, refl)
-numbered Cmpi = (lit< tt, refl)
-numbered J = (lit< tt, refl)
-numbered Lea = (lit< tt, refl)
-numbered Lbs = (lit< tt, refl)
-numbered Nop = (lit< tt, refl)
-numbered Mov = (lit< tt, refl)
-numbered Ret = (lit< tt, refl)
-numbered Reti = (lit< tt, refl)
-numbered Sxt = (lit< tt, refl)
-numbered Subi = (lit< tt, refl)
-numbered Zext = (lit< tt, refl)
-numbered Text = (lit< tt, refl)
-numbered Data = (lit< tt, refl)
-numbered Byte = (lit< tt, refl)
-numbered Word = (lit< tt, refl)
-numbered Align = (lit< tt, refl)
-numbered Label = (lit< tt, refl)
+numbered (Register And) = (lit< tt, refl)
+numbered (Register _) = (lit< tt, refl)
+numbered (Immediate Andi) = (lit< tt, refl)
+numbered (Immediate _) = (lit< tt, refl)
+numbered (Branch Br) = (lit< tt, refl)
+numbered (Branch _) = (lit< tt, refl)
+numbered _ = (lit< tt, refl)
 
 -- the test of the sizes tells
 sizes : (r : Record) → Decides (in_size r) (InSize r)

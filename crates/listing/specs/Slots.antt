@@ -75,34 +75,25 @@ nop = slot.Word (word.Register function.And 0 0)
 -- the register that may not be the result of the word before; 0 is none
 abbrev pub slot_late : Slot → ℕ
 slot_late (slot.Word i) = late i
-slot_late slot.Prefix = 0
 slot_late (slot.Low i) = late i
-slot_late (slot.Branch c) = 0
-slot_late slot.Call = 0
+slot_late _ = 0
 
 -- the register that a word writes; 0 is none
 abbrev pub slot_result : Slot → ℕ
 slot_result (slot.Word i) = written i
-slot_result slot.Prefix = 0
 slot_result (slot.Low i) = written i
-slot_result (slot.Branch c) = 0
 slot_result slot.Call = 15
+slot_result _ = 0
 
 -- the word with its operands swapped, where that is possible
 abbrev pub slot_swapped : Slot → Option Instruction
 slot_swapped (slot.Word i) = swapped i
-slot_swapped slot.Prefix = None
-slot_swapped (slot.Low i) = None
-slot_swapped (slot.Branch c) = None
-slot_swapped slot.Call = None
+slot_swapped _ = None
 
 -- adc and sbc
 abbrev pub slot_carrying : Slot → Bool
 slot_carrying (slot.Word i) = carrying i
-slot_carrying slot.Prefix = false
-slot_carrying (slot.Low i) = false
-slot_carrying (slot.Branch c) = false
-slot_carrying slot.Call = false
+slot_carrying _ = false
 
 -- a word is in hazard after a word with that result
 abbrev pub clash : ℕ → Slot → Bool

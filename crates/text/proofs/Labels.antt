@@ -8,7 +8,7 @@ use Rattle.listing.specs.declared.items.Item.{Item}
 use Rattle.listing.specs.declared.items.Item.TheVariants.{Label}
 use Rattle.listing.specs.Checks.{when}
 use Rattle.listing.specs.Reading.{record_at}
-use Rattle.listing.specs.Rules.{uses, allowed, is_unused, is_zero, good_fields, bad_field, bad_constant}
+use Rattle.listing.specs.Rules.{bad_field, bad_constant}
 use Rattle.listing.specs.Meaning.{meaning}
 use Rattle.text.specs.declared.places.Mark.{Mark}
 use Rattle.text.specs.declared.places.Place.{Place}
@@ -34,23 +34,10 @@ labels_length l (suc n) = go (record_at l n) ∙ labels_length l n
 
 -- a label that keeps the rules is below 1,024
 label_small : (r : Record) → bad_field r ≡ false → r.label < 1024
-label_small r h = ltb-true r.label 1024 (go (good_fields (uses r.operation) r) refl h)
+label_small r h = ltb-true r.label 1024 (search (sixth, h))
   where
-    go : (b : Bool) → good_fields (uses r.operation) r ≡ b → not b ≡ false → ltb r.label 1024 ≡ true
-    go true e h =
-        let g : Bool = not (is_unused (uses r.operation).constant) || is_zero r.constant in
-        let f : Bool = ltb r.label 1024 && g in
-        let e' : Bool = allowed ((uses r.operation).label || eqb r.reference 1) r.label && f in
-        let d : Bool = allowed (uses r.operation).reference r.reference && e' in
-        let c : Bool = allowed (uses r.operation).rb r.rb && d in
-        let b : Bool = allowed (uses r.operation).ra r.ra && c in
-        let s1 : b ≡ true = (and_parts (allowed (uses r.operation).rd r.rd) b e).1 in
-        let s2 : c ≡ true = (and_parts (allowed (uses r.operation).ra r.ra) c s1).1 in
-        let s3 : d ≡ true = (and_parts (allowed (uses r.operation).rb r.rb) d s2).1 in
-        let s4 : e' ≡ true = (and_parts (allowed (uses r.operation).reference r.reference) e' s3).1 in
-        let s5 : f ≡ true = (and_parts (allowed ((uses r.operation).label || eqb r.reference 1) r.label) f s4).1 in
-        (and_parts (ltb r.label 1024) g s5).0
-    go false e h = absurd (false≢true (sym h))
+    sixth : (a b c d e f g : Bool) → not (a && (b && (c && (d && (e && (f && g)))))) ≡ false → f ≡ true
+    sixth a b c d e f g h = grind arith
 
 -- a row that is taken stays as it is
 stays : (i : Item) (p : Place) (ls : List (Option Mark)) (r : Record) (k : ℕ) (m : Mark) → twice i ls r ≡ false → get_or ls k None ≡ Some m

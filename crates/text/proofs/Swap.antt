@@ -12,19 +12,4 @@ pub swap_cases : (P : Slot → Option Instruction → Type 0) → ((s : Slot) �
     → ((d a b : ℕ) → (a ≡ b → ⊥) → P (slot.Word (word.Add d a b)) (Some (word.Add d b a))) → (s : Slot) → P s (slot_swapped s)
 swap_cases P n y (slot.Word (word.Add d a b)) =
     cond_both (eqb a b) None (Some (word.Add d b a)) (P (slot.Word (word.Add d a b))) (λ _. n (slot.Word (word.Add d a b))) (λ e. y d a b (eqb-false a b e))
-swap_cases P n y (slot.Word (word.Sub d a b)) = n (slot.Word (word.Sub d a b))
-swap_cases P n y (slot.Word (word.Addi d a m)) = n (slot.Word (word.Addi d a m))
-swap_cases P n y (slot.Word (word.Register f d b)) = n (slot.Word (word.Register f d b))
-swap_cases P n y (slot.Word (word.Immediate f d m)) = n (slot.Word (word.Immediate f d m))
-swap_cases P n y (slot.Word (word.Lw d a m)) = n (slot.Word (word.Lw d a m))
-swap_cases P n y (slot.Word (word.Lb d a m)) = n (slot.Word (word.Lb d a m))
-swap_cases P n y (slot.Word (word.Sw d a m)) = n (slot.Word (word.Sw d a m))
-swap_cases P n y (slot.Word (word.Sb d a m)) = n (slot.Word (word.Sb d a m))
-swap_cases P n y (slot.Word (word.Jal d a m)) = n (slot.Word (word.Jal d a m))
-swap_cases P n y (slot.Word (word.Branch c m)) = n (slot.Word (word.Branch c m))
-swap_cases P n y (slot.Word (word.Call m)) = n (slot.Word (word.Call m))
-swap_cases P n y (slot.Word (word.Imm m)) = n (slot.Word (word.Imm m))
-swap_cases P n y slot.Prefix = n slot.Prefix
-swap_cases P n y (slot.Low i) = n (slot.Low i)
-swap_cases P n y (slot.Branch c) = n (slot.Branch c)
-swap_cases P n y slot.Call = n slot.Call
+swap_cases P n y s = n s

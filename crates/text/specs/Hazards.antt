@@ -8,12 +8,8 @@ use Rattle.text.specs.Origins.{Cause, Own, Prefix, Inserted, Datum, Alignment, E
 
 -- a byte or word record
 abbrev pub is_datum : Cause → Bool
-is_datum Own = false
-is_datum Prefix = false
-is_datum Inserted = false
 is_datum Datum = true
-is_datum Alignment = false
-is_datum End = false
+is_datum _ = false
 
 -- what is read past the end of a list of origins
 abbrev pub nowhere : Origin

@@ -60,8 +60,7 @@ bytes_of (Words b) p r v = words (number_of b.negated v) p.text (slots p.result 
 bytes_of Byte p r v = bits16 v % 256 ∷ []
 bytes_of Word p r v = word_bytes (bits16 v)
 bytes_of Align p r v = replicate (padding (here p) (bits16 r.constant)) 0
-bytes_of Label p r v = []
-bytes_of (Turn s) p r v = []
+bytes_of _ p r v = []
 
 -- the bytes of a record at a place
 abbrev pub record_bytes : ℕ → List (Option Mark) → Place → Record → List ℕ
@@ -70,9 +69,8 @@ record_bytes base labels p r = bytes_of (meaning r) p r (unwrap_or (value base l
 -- two sections are the same
 abbrev pub same : Section → Section → Bool
 same section.Text section.Text = true
-same section.Text section.Data = false
-same section.Data section.Text = false
 same section.Data section.Data = true
+same _ _ = false
 
 -- what a record at a place puts into a section
 abbrev pub portion : Section → ℕ → List (Option Mark) → Place → Option Record → List ℕ

@@ -22,19 +22,8 @@ use Rattle.text.specs.Image.{value, image, text_length, word_at}
 
 -- the prefix that an instruction leaves pending
 abbrev pub prefix_of : Instruction → Option ℕ
-prefix_of (Add d a b) = None
-prefix_of (Sub d a b) = None
-prefix_of (Addi d a n) = None
-prefix_of (Register f d b) = None
-prefix_of (Immediate f d n) = None
-prefix_of (Lw d a n) = None
-prefix_of (Lb d a n) = None
-prefix_of (Sw d a n) = None
-prefix_of (Sb d a n) = None
-prefix_of (Jal d a n) = None
-prefix_of (Branch c n) = None
-prefix_of (Call n) = None
 prefix_of (Imm n) = Some n
+prefix_of _ = None
 
 -- the immediate that a field forms with the pending prefix, where there is a field
 abbrev pub shown : Option ℕ → Option ImmediateField → List ℕ
@@ -51,9 +40,7 @@ abbrev pub first_asks : First → ℤ → ℤ → List ℕ
 first_asks (first.Word i) z k = shown None (immediate_field i)
 first_asks (first.Field g i) z k = bits16 z ∷ []
 first_asks (first.Repeat f d) z k = replicate (bits16 k) 1
-first_asks (first.Move d a) z k = []
-first_asks (first.Branch c) z k = []
-first_asks first.Call z k = []
+first_asks _ z k = []
 
 -- those of the words that extend a byte
 abbrev pub rest_asks : Rest → List ℕ

@@ -33,26 +33,17 @@ size_of (Words b) p r = 2 * length (slots p.result b r)
 size_of Byte p r = 1
 size_of Word p r = 2
 size_of Align p r = padding (here p) (bits16 r.constant)
-size_of Label p r = 0
-size_of (Turn s) p r = 0
+size_of _ p r = 0
 
 -- the register that the last text word then writes, where the record adds a byte to text; data and padding write none
 abbrev pub result_of : Item → Place → Record → ℕ
 result_of (Words b) p r = last_result p.result b r
-result_of Byte p r = 0
-result_of Word p r = 0
-result_of Align p r = 0
-result_of Label p r = 0
-result_of (Turn s) p r = 0
+result_of _ p r = 0
 
 -- the section that the next record stands in
 abbrev pub section_after : Item → Section → Section
-section_after (Words b) s = s
-section_after Byte s = s
-section_after Word s = s
-section_after Align s = s
-section_after Label s = s
 section_after (Turn t) s = t
+section_after _ s = s
 
 -- the place after so many more bytes in a section; where there are none, or they are data, the last text word is the same as before
 abbrev pub grown : Section → Place → ℕ → ℕ → Section → Place
@@ -74,12 +65,8 @@ after p (Some r) = moved p r
 
 -- a label record
 abbrev pub is_label : Item → Bool
-is_label (Words b) = false
-is_label Byte = false
-is_label Word = false
-is_label Align = false
 is_label Label = true
-is_label (Turn s) = false
+is_label _ = false
 
 -- the end of the section, which a label there names
 abbrev pub mark_at : Place → Mark
@@ -97,11 +84,8 @@ is_text section.Data = false
 -- an instruction in data, or an instruction or a word at an odd address
 abbrev pub misplaced : Item → Place → Bool
 misplaced (Words b) p = not (is_text p.section && p.text % 2 == 0)
-misplaced Byte p = false
 misplaced Word p = here p % 2 == 1
-misplaced Align p = false
-misplaced Label p = false
-misplaced (Turn s) p = false
+misplaced _ p = false
 
 -- a label that is already defined
 abbrev pub twice : Item → List (Option Mark) → Record → Bool
@@ -110,11 +94,7 @@ twice i labels r = is_label i && is_some (slice_index_or labels r.label None)
 -- adc or sbc in hazard
 abbrev pub parted_at : Item → Place → Record → Bool
 parted_at (Words b) p r = parted p.result b r
-parted_at Byte p r = false
-parted_at Word p r = false
-parted_at Align p r = false
-parted_at Label p r = false
-parted_at (Turn s) p r = false
+parted_at _ p r = false
 
 -- why a record cannot stand where it does, in the order of the checks
 abbrev pub place_refusal : Item → Layout → Record → Option Refusal

@@ -1,7 +1,7 @@
 -- Where each byte of the image comes from.
 use Rattle.std.specs.Prelude.{ℕ, zero, suc, ◌-◌, ◌/◌, cond, List, [], ◌∷◌, ◌++◌, length, replicate, Some, None, Option, ◌==◌, slice_index_or}
 use Rattle.isa.specs.declared.instructions.Instruction.{Instruction}
-use Rattle.isa.specs.declared.instructions.Instruction.TheVariants.{Add, Sub, Addi, Register, Immediate, Lw, Lb, Sw, Sb, Jal, Branch, Call, Imm}
+use Rattle.isa.specs.declared.instructions.Instruction.TheVariants.{Imm}
 use Rattle.listing.specs.declared.records.Record.{Record}
 use Rattle.listing.specs.declared.items.Section.{Section}
 use Rattle.listing.specs.declared.items.Section.TheVariants as section
@@ -35,33 +35,19 @@ pub record Origin : Type 0 where
 
 -- a prefix is not the record's own word
 abbrev pub instruction_cause : Instruction → Cause
-instruction_cause (Add d a b) = Own
-instruction_cause (Sub d a b) = Own
-instruction_cause (Addi d a n) = Own
-instruction_cause (Register f d b) = Own
-instruction_cause (Immediate f d n) = Own
-instruction_cause (Lw d a n) = Own
-instruction_cause (Lb d a n) = Own
-instruction_cause (Sw d a n) = Own
-instruction_cause (Sb d a n) = Own
-instruction_cause (Jal d a n) = Own
-instruction_cause (Branch c n) = Own
-instruction_cause (Call n) = Own
 instruction_cause (Imm n) = Prefix
+instruction_cause _ = Own
 
 -- the cause of a word that a record's template has
 abbrev pub slot_cause : Slot → Cause
 slot_cause (slot.Word i) = instruction_cause i
 slot_cause slot.Prefix = Prefix
-slot_cause (slot.Low i) = Own
-slot_cause (slot.Branch c) = Own
-slot_cause slot.Call = Own
+slot_cause _ = Own
 
 -- the cause of the word at k of a mended record: only the first can be a nop put in
 abbrev pub word_cause : Mend → ℕ → Slot → Cause
-word_cause mend.Keep k s = slot_cause s
-word_cause (mend.Swap i) k s = slot_cause s
 word_cause mend.Nop k s = cond (k == 0) Inserted (slot_cause s)
+word_cause _ k s = slot_cause s
 
 -- the causes of the bytes of a record's first k words
 unfoldable pub word_causes : Mend → List Slot → ℕ → List Cause
@@ -74,8 +60,7 @@ causes_of (Words b) p r = word_causes (body_mend p.result b r) (slots p.result b
 causes_of Byte p r = Datum ∷ []
 causes_of Word p r = Datum ∷ Datum ∷ []
 causes_of Align p r = replicate (padding (here p) (bits16 r.constant)) Alignment
-causes_of Label p r = []
-causes_of (Turn s) p r = []
+causes_of _ p r = []
 
 -- the causes with the index of their record
 abbrev pub at_index : ℕ → List Cause → List Origin

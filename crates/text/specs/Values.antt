@@ -24,21 +24,14 @@ found_value (Some v) n = Ok v
 
 -- a branch or a call, whose value is a target
 abbrev pub first_target : First → Bool
-first_target (first.Word i) = false
-first_target (first.Field g i) = false
-first_target (first.Repeat f d) = false
-first_target (first.Move d a) = false
 first_target (first.Branch c) = true
 first_target first.Call = true
+first_target _ = false
 
 -- the same of what a record means
 abbrev pub is_target : Item → Bool
 is_target (Words b) = first_target b.first
-is_target Byte = false
-is_target Word = false
-is_target Align = false
-is_target Label = false
-is_target (Turn s) = false
+is_target _ = false
 
 -- a value that no sixteen bits have; a target is not below 0
 abbrev pub outside : Item → ℤ → Bool
@@ -50,21 +43,14 @@ near at v = bits16 v % 2 == 0 && within (negsuc 255) (pos 254) (distance at v)
 
 -- a branch is near its target, and a call's target is a multiple of 16
 abbrev pub first_reaches : First → ℕ → ℤ → Bool
-first_reaches (first.Word i) at v = true
-first_reaches (first.Field g i) at v = true
-first_reaches (first.Repeat f d) at v = true
-first_reaches (first.Move d a) at v = true
 first_reaches (first.Branch c) at v = near at v
 first_reaches first.Call at v = bits16 v % 16 == 0
+first_reaches _ at v = true
 
 -- the same of what a record means
 abbrev pub reaches : Item → ℕ → ℤ → Bool
 reaches (Words b) at v = first_reaches b.first at v
-reaches Byte at v = true
-reaches Word at v = true
-reaches Align at v = true
-reaches Label at v = true
-reaches (Turn s) at v = true
+reaches _ at v = true
 
 -- why a record's value is refused, in the order of the checks
 abbrev pub value_refusal : Place → Record → Option ℤ → Option Refusal
