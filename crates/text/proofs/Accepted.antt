@@ -18,15 +18,15 @@ use Rattle.text.specs.Answer.{failure}
 -- nothing refuses: the first check does not, nor do the others
 pub first_none : {A : Type 0} (o : Option A) (os : List (Option A)) → first_some (o ∷ os) ≡ None → (o ≡ None) × (first_some os ≡ None)
 first_none None os h = (refl, h)
-first_none (Some e) os h = let z : ◌≡◌ {A = ℕ} 0 1 = cc in absurd (omega arith)
+first_none (Some e) os h = absurd cc
 
 pub when_none : {A : Type 0} (b : Bool) (x : A) → when b x ≡ None → b ≡ false
-when_none true x h = let z : ◌≡◌ {A = ℕ} 0 1 = cc in absurd (omega arith)
+when_none true x h = absurd cc
 when_none false x h = refl
 
 pub refused_none : (n : ℕ) (o : Option Refusal) → refused_at n o ≡ None → o ≡ None
 refused_none n None h = refl
-refused_none n (Some e) h = let z : ◌≡◌ {A = ℕ} 0 1 = cc in absurd (omega arith)
+refused_none n (Some e) h = absurd cc
 
 -- what a pass accepts, it accepts index by index
 pub accepted : (f : ℕ → Option Refused) (n : ℕ) → first_refused f n ≡ None → (k : ℕ) → k < n → f k ≡ None
@@ -48,14 +48,12 @@ pub record Fitting (s : Layout) (r : Record) : Type 0 where
 
 pub fitting : (s : Layout) (r : Record) → record_refusal s r ≡ None → Fitting s r
 fitting s r h =
-    let i = meaning r in
-    let last : List (Option Refusal) = when (parted_at i s.place r) refusal.Parted ∷ [] in
-    let more : List (Option Refusal) = when (twice i s.labels r) refusal.Twice ∷ last in
-    let own = first_none (rule_refusal r) (place_refusal i s r ∷ []) h in
-    let place = (first_none (place_refusal i s r) [] own.1).0 in
-    let a = first_none (when (misplaced i s.place) refusal.Misplaced) more place in
-    let b = first_none (when (twice i s.labels r) refusal.Twice) last a.1 in
-    record { rules = own.0; placed = when_none _ refusal.Misplaced a.0; once = when_none _ refusal.Twice b.0 }
+    let all = all_pass (misplaced (meaning r) s.place) (twice (meaning r) s.labels r) (parted_at (meaning r) s.place r) (rule_refusal r) _ _ _ h in
+    record { rules = all.0; placed = all.1.0; once = all.1.1 }
+  where
+    all_pass : (a b c : Bool) (o : Option Refusal) (x y z : Refusal)
+        → first_some (o ∷ first_some (when a x ∷ when b y ∷ when c z ∷ []) ∷ []) ≡ None → (o ≡ None) × ((a ≡ false) × (b ≡ false))
+    all_pass a b c o x y z h = (grind (arith, first_none, when_none), (grind (arith, first_none, when_none), grind (arith, first_none, when_none)))
 
 -- every record of a listing whose layout is accepted is one that fits
 pub record_fits : (l : List ℕ) (m : ℕ) → layout_refused l m ≡ None → (n : ℕ) (r : Record) → n < m → record_at l n ≡ Some r → Fitting (laid l n) r
@@ -71,22 +69,9 @@ pub record Accepted (l : List ℕ) (room : ℕ) : Type 0 where
   pub roomy : image_length l (length l / 8) ≤ room
 
 pub acceptance : (l : List ℕ) (room : ℕ) → failure l room ≡ None → Accepted l room
-acceptance l room h =
-    let n : ℕ = length l / 8 in
-    let short : List (Option Refused) = when (ltb room (image_length l n)) (record { refusal = refusal.Short; index = n }) ∷ [] in
-    let values : List (Option Refused) = value_refused l n (text_length l n) (laid l n).labels ∷ short in
-    let big : List (Option Refused) = when (ltb 65280 (image_length l n)) (record { refusal = refusal.Big; index = n }) ∷ values in
-    let layout : List (Option Refused) = layout_refused l n ∷ big in
-    let long : List (Option Refused) = when (ltb 4096 n) (record { refusal = refusal.Long; index = n }) ∷ layout in
-    let a = first_none (when (not (eqb (length l % 8) 0)) (record { refusal = refusal.Ragged; index = n })) long h in
-    let b = first_none (when (ltb 4096 n) (record { refusal = refusal.Long; index = n })) layout a.1 in
-    let c = first_none (layout_refused l n) big b.1 in
-    let d = first_none (when (ltb 65280 (image_length l n)) (record { refusal = refusal.Big; index = n })) values c.1 in
-    let e = first_none (value_refused l n (text_length l n) (laid l n).labels) short d.1 in
-    let f = first_none (when (ltb room (image_length l n)) (record { refusal = refusal.Short; index = n })) [] e.1 in
-    record {
-      laid_out = c.0;
-      small = ltb-false 65280 (image_length l n) (when_none _ (record { refusal = refusal.Big; index = n }) d.0);
-      valued = e.0;
-      roomy = ltb-false room (image_length l n) (when_none _ (record { refusal = refusal.Short; index = n }) f.0);
-    }
+acceptance l room h = record {
+  laid_out = grind (arith, first_none, when_none);
+  small = grind (arith, first_none, when_none, ltb-false);
+  valued = grind (arith, first_none, when_none);
+  roomy = grind (arith, first_none, when_none, ltb-false);
+}

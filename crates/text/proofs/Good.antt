@@ -132,4 +132,4 @@ small_word w i p = ⊎_elim (λ h. h) (λ h.
     let low : ℕ = w % 4096 in
     let far : 14 ≤ w / 4096 = omega arith in
     let past' : read_word w ≡ Err Unknown = get_or_past (readings d a b low) (w / 4096) (Err Unknown) far in
-    let z : ◌≡◌ {A = ℕ} 0 1 = cc in absurd (omega arith)) (cases_lt w 65536)
+    absurd cc) (cases_lt w 65536)

@@ -70,19 +70,8 @@ long n h = omega arith
 
 -- an instruction with an immediate leaves no prefix
 no_prefix : (i : Instruction) (f : ImmediateField) → immediate_field i ≡ Some f → prefix_of i ≡ None
-no_prefix (word.Add d a b) f e = refl
-no_prefix (word.Sub d a b) f e = refl
-no_prefix (word.Addi d a n) f e = refl
-no_prefix (word.Register g d b) f e = refl
-no_prefix (word.Immediate g d n) f e = refl
-no_prefix (word.Lw d a n) f e = refl
-no_prefix (word.Lb d a n) f e = refl
-no_prefix (word.Sw d a n) f e = refl
-no_prefix (word.Sb d a n) f e = refl
-no_prefix (word.Jal d a n) f e = refl
-no_prefix (word.Branch c n) f e = refl
-no_prefix (word.Call n) f e = refl
-no_prefix (word.Imm n) f e = let z : ◌≡◌ {A = ℕ} 0 1 = cc in absurd (omega arith)
+no_prefix (word.Imm n) f e = absurd cc
+no_prefix i f e = refl
 
 -- the instructions of a record's words
 abbrev pub fill : ℤ → ℕ → List Slot → List Instruction

@@ -31,34 +31,26 @@ use Rattle.text.proofs.Lawful.{LawfulFirst, LawfulRest, body_lawful}
 
 abbrev SizedSlot : Slot → Type 0
 SizedSlot (slot.Word i) = InSize i
-SizedSlot slot.Prefix = Unit {0}
 SizedSlot (slot.Low i) = InSize i
-SizedSlot (slot.Branch c) = Unit {0}
-SizedSlot slot.Call = Unit {0}
+SizedSlot _ = Unit {0}
 
 Sized : List Slot → Type 0
 Sized [] = Unit {0}
 Sized (s ∷ ss) = SizedSlot s × Sized ss
 
 low_sized : (i : Instruction) (n : ℕ) → InSize i → n < 16 → InSize (with_immediate i n)
-low_sized (word.Add d a b) n h k = h
-low_sized (word.Sub d a b) n h k = h
 low_sized (word.Addi d a m) n (x, y, z) k = (x, y, k)
-low_sized (word.Register f d b) n h k = h
 low_sized (word.Immediate f d m) n (x, z) k = (x, k)
 low_sized (word.Lw d a m) n (x, y, z) k = (x, y, k)
 low_sized (word.Lb d a m) n (x, y, z) k = (x, y, k)
 low_sized (word.Sw d a m) n (x, y, z) k = (x, y, k)
 low_sized (word.Sb d a m) n (x, y, z) k = (x, y, k)
 low_sized (word.Jal d a m) n (x, y, z) k = (x, y, k)
-low_sized (word.Branch c m) n h k = h
-low_sized (word.Call m) n h k = h
-low_sized (word.Imm m) n h k = h
+low_sized i n h k = h
 
 field_small : (g : ImmediateForm) (z : ℤ) → field_of g z < 16
 field_small form.Signed z = omega arith
-field_small form.ByteOffset z = omega arith
-field_small form.WordOffset z = omega arith
+field_small _ z = omega arith
 
 repeated : (s : Slot) (n : ℕ) → SizedSlot s → Sized (replicate n s)
 unfolding Sized

@@ -17,11 +17,7 @@ use Rattle.text.proofs.Accepted.{first_none, when_none, record_fits}
 
 -- the table keeps its 1,024 rows
 marked_length : (i : Item) (p : Place) (ls : List (Option Mark)) (r : Record) → length (marked_by i p ls r) ≡ length ls
-marked_length i p ls r = go (is_label i)
-  where
-    go : (b : Bool) → length (cond b (set ls r.label (Some (mark_at p))) ls) ≡ length ls
-    go true = length-set ls r.label (Some (mark_at p))
-    go false = refl
+marked_length i p ls r = grind (arith, length-set)
 
 labels_length : (l : List ℕ) (n : ℕ) → length (laid l n).labels ≡ 1024
 unfolding laid
@@ -42,13 +38,7 @@ label_small r h = ltb-true r.label 1024 (search (sixth, h))
 -- a row that is taken stays as it is
 stays : (i : Item) (p : Place) (ls : List (Option Mark)) (r : Record) (k : ℕ) (m : Mark) → twice i ls r ≡ false → get_or ls k None ≡ Some m
     → get_or (marked_by i p ls r) k None ≡ Some m
-stays i p ls r k m once is = go (is_label i) once
-  where
-    go : (b : Bool) → (b && is_some (get_or ls r.label None)) ≡ false → get_or (cond b (set ls r.label (Some (mark_at p))) ls) k None ≡ Some m
-    go true h =
-        let ne : k ≢ r.label = λ e. false≢true (sym h ∙ ap (λ j. is_some (get_or ls j None)) (sym e) ∙ ap is_some is) in
-        get_or-set_other ls r.label k (Some (mark_at p)) None ne ∙ is
-    go false h = is
+stays i p ls r k m once is = grind (arith, get_or-set_other)
 
 module _ (l : List ℕ) (m : ℕ) (ok : layout_refused l m ≡ None) (n : ℕ) (r : Record) (lt : n < m) (e : record_at l n ≡ Some r) (label : meaning r ≡ Label) where
   small : r.label < 1024

@@ -25,8 +25,7 @@ LawfulFirst (first.Word i) = InSize i × (prefix_of i ≡ None)
 LawfulFirst (first.Field g i) = InSize i × ((n : ℕ) → immediate_field (with_immediate i n) ≡ Some (record { form = g; bits = n }))
 LawfulFirst (first.Repeat f d) = d < 16
 LawfulFirst (first.Move d a) = (d < 16) × (a < 16)
-LawfulFirst (first.Branch c) = Unit {0}
-LawfulFirst first.Call = Unit {0}
+LawfulFirst _ = Unit {0}
 
 abbrev pub LawfulRest : Rest → Type 0
 LawfulRest rest.Nothing = Unit {0}
@@ -36,11 +35,7 @@ LawfulRest (rest.Both d) = d < 16
 
 abbrev pub Lawful : Item → Type 0
 Lawful (item.Words b) = LawfulFirst b.first × LawfulRest b.rest
-Lawful item.Byte = Unit {0}
-Lawful item.Word = Unit {0}
-Lawful item.Align = Unit {0}
-Lawful item.Label = Unit {0}
-Lawful (item.Section s) = Unit {0}
+Lawful _ = Unit {0}
 
 lawful : (o : Operation) (d a b : ℕ) → d < 16 → a < 16 → b < 16 → Lawful (meaning_of o d a b)
 lawful Add d a b x y z = (((x, y, z), refl), tt)
@@ -67,12 +62,7 @@ lawful Reti d a b x y z = (((lit< tt, lit< tt, lit< tt), refl), tt)
 lawful Sxt d a b x y z = ((x, y), x)
 lawful Subi d a b x y z = (((x, y, lit< tt), λ n. refl), tt)
 lawful Zext d a b x y z = ((x, y), x)
-lawful Text d a b x y z = tt
-lawful Data d a b x y z = tt
-lawful Byte d a b x y z = tt
-lawful Word d a b x y z = tt
-lawful Align d a b x y z = tt
-lawful Label d a b x y z = tt
+lawful _ d a b x y z = tt
 
 -- a record of the listing
 Fields : Option Record → Type 0

@@ -48,19 +48,13 @@ at_index_length n (c ∷ cs) = ap suc (at_index_length n cs)
 module _ (p : Place) (r : Record) where
   pub item_length : (v : ℤ) (i : Item) → length (bytes_of i p r v) ≡ size_of i p r
   item_length v (Words b) = words_length (number_of b.negated v) p.text (slots p.result b r) _
-  item_length v Byte = refl
-  item_length v Word = refl
   item_length v Align = length-replicate (padding (here p) (bits16 r.constant)) 0
-  item_length v Label = refl
-  item_length v (Turn s) = refl
+  item_length v i = refl
 
   item_causes_length : (i : Item) → length (causes_of i p r) ≡ size_of i p r
   item_causes_length (Words b) = causes_length (body_mend p.result b r) (slots p.result b r) _
-  item_causes_length Byte = refl
-  item_causes_length Word = refl
   item_causes_length Align = length-replicate (padding (here p) (bits16 r.constant)) Alignment
-  item_causes_length Label = refl
-  item_causes_length (Turn s) = refl
+  item_causes_length i = refl
 
   pub item_origins_length : (n : ℕ) (i : Item) → length (at_index n (causes_of i p r)) ≡ size_of i p r
   item_origins_length n i = at_index_length n (causes_of i p r) ∙ item_causes_length i
@@ -73,9 +67,8 @@ total section.Data p = p.«data»
 grows : {A : Type 0} (p : Place) (bs : List A) (n result : ℕ) (q : Section) → length bs ≡ n → (s t : Section)
     → total t p + length (cond (same s t) bs []) ≡ total t (grown s p n result q)
 grows p bs n result q e section.Text section.Text = ap (λ k. p.text + k) e
-grows p bs n result q e section.Text section.Data = omega arith
-grows p bs n result q e section.Data section.Text = omega arith
 grows p bs n result q e section.Data section.Data = ap (λ k. p.«data» + k) e
+grows p bs n result q e _ _ = omega arith
 
 empty : (t : Section) → 0 ≡ total t start.place
 empty section.Text = refl

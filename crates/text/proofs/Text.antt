@@ -53,54 +53,25 @@ word_reads i = go (write_word i) (writes_back i)
     go (Err e) n = record { other = word.Add 0 0 0; reads = refl; lates = inl refl; writes = inl refl }
 
 low_same : (i : Instruction) (n : ℕ) → (late (with_immediate i n) ≡ late i) × (written (with_immediate i n) ≡ written i)
-low_same (word.Add d a b) n = (refl, refl)
-low_same (word.Sub d a b) n = (refl, refl)
 low_same (word.Addi d a m) n = (refl, refl)
-low_same (word.Register f d b) n = (refl, refl)
-low_same (word.Immediate f d m) n = (refl, refl)
-low_same (word.Lw d a m) n = (refl, refl)
-low_same (word.Lb d a m) n = (refl, refl)
-low_same (word.Sw d a m) n = (refl, refl)
-low_same (word.Sb d a m) n = (refl, refl)
-low_same (word.Jal d a m) n = (refl, refl)
-low_same (word.Branch c m) n = (refl, refl)
-low_same (word.Call m) n = (refl, refl)
-low_same (word.Imm m) n = (refl, refl)
+low_same i n = (refl, refl)
 
 filled_same : (v : ℤ) (at : ℕ) (s : Slot) → (late (filled v at s) ≡ slot_late s) × (written (filled v at s) ≡ slot_result s)
-filled_same v at (slot.Word i) = (refl, refl)
-filled_same v at slot.Prefix = (refl, refl)
 filled_same v at (slot.Low i) = low_same i (bits16 v % 16)
-filled_same v at (slot.Branch c) = (refl, refl)
-filled_same v at slot.Call = (refl, refl)
+filled_same v at s = (refl, refl)
 
 -- no word of a record is data
 instruction_plain : (i : Instruction) → is_datum (slot_cause (slot.Word i)) ≡ false
-instruction_plain (word.Add d a b) = refl
-instruction_plain (word.Sub d a b) = refl
-instruction_plain (word.Addi d a m) = refl
-instruction_plain (word.Register f d b) = refl
-instruction_plain (word.Immediate f d m) = refl
-instruction_plain (word.Lw d a m) = refl
-instruction_plain (word.Lb d a m) = refl
-instruction_plain (word.Sw d a m) = refl
-instruction_plain (word.Sb d a m) = refl
-instruction_plain (word.Jal d a m) = refl
-instruction_plain (word.Branch c m) = refl
-instruction_plain (word.Call m) = refl
 instruction_plain (word.Imm m) = refl
+instruction_plain i = refl
 
 slot_plain : (s : Slot) → is_datum (slot_cause s) ≡ false
 slot_plain (slot.Word i) = instruction_plain i
-slot_plain slot.Prefix = refl
-slot_plain (slot.Low i) = refl
-slot_plain (slot.Branch c) = refl
-slot_plain slot.Call = refl
+slot_plain s = refl
 
 plain : (m : Mend) (k : ℕ) (s : Slot) → is_datum (word_cause m k s) ≡ false
-plain mend.Keep k s = slot_plain s
-plain (mend.Swap i) k s = slot_plain s
 plain mend.Nop k s = cond_both (eqb k 0) Inserted (slot_cause s) (λ x. is_datum x ≡ false) (λ _. refl) (λ _. slot_plain s)
+plain m k s = slot_plain s
 
 at_index_append : (n : ℕ) (xs ys : List Cause) → at_index n (xs ++ ys) ≡ at_index n xs ++ at_index n ys
 at_index_append n [] ys = refl

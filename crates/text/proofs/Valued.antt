@@ -31,7 +31,7 @@ pub record Valued (p : Place) (r : Record) (o : Option ℤ) : Type 0 where
   pub reached : reaches (meaning r) p.text value ≡ true
 
 passed : (p : Place) (r : Record) (o : Option ℤ) → value_refusal p r o ≡ None → Valued p r o
-passed p r None h = let z : ◌≡◌ {A = ℕ} 0 1 = cc in absurd (omega arith)
+passed p r None h = absurd cc
 passed p r (Some v) h =
     let last : List (Option Refusal) = when (not (reaches (meaning r) p.text v)) refusal.Reach ∷ [] in
     let a = first_none (when (outside (meaning r) v) refusal.Value) last h in
