@@ -1,4 +1,5 @@
 pub mod LongestRun
+pub mod Pairs
 pub mod Front
 pub mod Accepted
 pub mod Swap

@@ -2,7 +2,7 @@
 use isa::Refusal;
 
 // The text length and the image length in bytes, and the longest run of interlocked text words.
-#[derive(Clone, Copy)]
+#[derive(Clone, Copy, PartialEq, Eq)]
 pub struct Answers {
     pub text: usize,
     pub image: usize,
@@ -10,7 +10,7 @@ pub struct Answers {
 }
 
 // A refusal with the index of its record, or with the number of records where it concerns them all.
-#[derive(Clone, Copy)]
+#[derive(Clone, Copy, PartialEq, Eq)]
 pub struct Refused {
     pub refusal: Refusal,
     pub index: usize,

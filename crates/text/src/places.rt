@@ -3,7 +3,7 @@ use listing::Section;
 
 // The section that the next record stands in, the lengths of both sections, and the register that the
 // last text word writes.
-#[derive(Clone, Copy)]
+#[derive(Clone, Copy, PartialEq, Eq)]
 pub struct Place {
     pub section: Section,
     pub text: usize,
@@ -12,13 +12,13 @@ pub struct Place {
 }
 
 // What a label names: an offset in a section.
-#[derive(Clone, Copy)]
+#[derive(Clone, Copy, PartialEq, Eq)]
 pub struct Mark {
     pub section: Section,
     pub offset: u32,
 }
 
-#[derive(Clone, Copy)]
+#[derive(Clone, Copy, PartialEq, Eq)]
 pub struct Layout {
     pub place: Place,
     pub labels: [Option<Mark>; 1024],

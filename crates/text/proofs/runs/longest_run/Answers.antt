@@ -1,24 +1,27 @@
-use Rattle.std.proofs.Common.{◌≡◌, ◌+◌, ◌/◌, max, cond, length, sym, refl, ap, ◌∙◌, subst, add-one, arith, rules}
+use Rattle.std.proofs.Common.{◌≡◌, ◌+◌, ◌*◌, ◌/◌, max, cond, [], length, get_or, refl, ap, ◌∙◌, add-one, arith, rules, w16}
+use Rattle.std.specs.Int.{from_be_bytes}
 use Rattle.isa.specs.Registers.{reads_interlocked}
-use Rattle.text.specs.Runs.{current, longest, Longest}
+use Rattle.text.specs.Image.{word_at}
+use Rattle.text.specs.Runs.{current, longest}
 use Rattle.text.proofs.LongestRun.{longest_is}
+use Rattle.text.proofs.Pairs.{pair_word}
 use Rattle.text.proofs.runs.longest_run.Goals as goal
 
-pub loop-k-init : goal.loop-k-init
+pub loop-pair-init : goal.loop-pair-init
 unfolding current longest
-loop-k-init c = (refl, refl, omega arith)
+loop-pair-init c = search rules
 
-pub loop-k-preserved : goal.loop-k-preserved
+pub loop-pair-preserved : goal.loop-pair-preserved
 unfolding current longest
-loop-k-preserved c =
-    let inv = c.loop-k.invariant in
-    let now' = c.lengthened-run.ensures.value ∙ (λ j. cond (reads_interlocked (c.word_at.ensures j)) (inv.0 j + 1) 0) in
-    let top : c.max-top.result ≡ max c.loop-k.top c.lengthened-run.result = search rules in
-    rw add-one (now', top ∙ (λ j. max (inv.1 j) (now' j)), omega arith)
+loop-pair-preserved c =
+    let t = c.args.text.now in
+    let k = c.loop-pair.pair-index in
+    let inv = c.loop-pair.invariant in
+    let word : c.from_be_bytes.result ≡ word_at t (2 * k) =
+    c.from_be_bytes.ensures ∙ ap (λ pairs. from_be_bytes w16 (get_or pairs k [])) c.as_chunks.ensures.front ∙ pair_word t (length t / 2) k (omega arith) (omega arith) in
+    let now' = c.lengthened-run.ensures.value ∙ (λ j. cond (reads_interlocked (word j)) (inv.run j + 1) 0) in
+    let top : c.max-top.result ≡ max c.loop-pair.top c.lengthened-run.result = search rules in
+    rw add-one (record { run = now'; top = top ∙ (λ j. max (inv.top j) (now' j)); short = omega arith })
 
-pub returns : goal.returns
-returns c =
-    let l = c.args.text.now in
-    let done : c.loop-k.k ≡ length l / 2 = omega arith in
-    let is = c.loop-k.invariant.1 ∙ ap (longest l) done in
-    record { value = is; longest = subst (Longest l (length l / 2)) (sym is) (longest_is l (length l / 2)) }
+pub returns-clause-longest : goal.returns-clause-longest
+returns-clause-longest c = search (rules, longest_is)
