@@ -1,21 +1,17 @@
 -- Writing and reading records are one another's inverse.
-use Rattle.std.proofs.Common.{◌≡◌, ℕ, zero, suc, ◌+◌, ◌*◌, ◌/◌, ◌%◌, ◌<◌, Bool, true, ◌&&◌, eqb, ltb, List, [], ◌∷◌, ◌++◌, length, get_or, Some, None, Ok, Err, Decides, Option, refl, ap, ◌∙◌, subst, arith, lit<, to_z-of_z, w32, SFits, to_z, of_z}
+use Rattle.std.proofs.Common.{◌≡◌, ℕ, zero, suc, ◌+◌, ◌*◌, ◌/◌, ◌%◌, ◌<◌, Bool, true, ◌&&◌, eqb, List, [], ◌∷◌, ◌++◌, length, get_or, Some, None, Ok, Err, Option, refl, ap, ◌∙◌, subst, arith, lit<, to_z-of_z, w32, SFits, to_z, of_z}
 use mir.Facts.{Fits-of_z, of_z-to_z}
-use Rattle.std.proofs.lemmas.Bool.{cond_both, cond-true, eqb-true, both_ways}
-use Rattle.std.proofs.lemmas.Bool.Decides.{Decides-ltb, Decides-and, Decides-like, Decides-below_and}
+use Rattle.std.proofs.lemmas.Bool.{cond-true, eqb-true}
+use Rattle.std.proofs.lemmas.Bool.Decides.{Decides-below_and}
 use Rattle.isa.specs.declared.refusals.Refusal.TheVariants as refusal
-use Rattle.isa.specs.declared.instructions.RegisterFunction.{RegisterFunction}
-use Rattle.isa.specs.declared.instructions.RegisterFunction.TheVariants.{And, Or, Xor, Andn, Adc, Sbc}
-use Rattle.isa.specs.declared.instructions.ImmediateFunction.{ImmediateFunction}
-use Rattle.isa.specs.declared.instructions.ImmediateFunction.TheVariants.{Andi, Ori, Xori, Andni, Adci, Sbci, Srli, Srai, Slli, Srxi, Slxi}
-use Rattle.isa.specs.declared.instructions.Condition.{Condition}
-use Rattle.isa.specs.declared.instructions.Condition.TheVariants.{Br, Beq, Bne, Bc, Bnc, Bv, Bnv, Blt, Bge, Ble, Bgt, Bltu, Bgeu, Bleu, Bgtu}
+use Rattle.isa.specs.declared.instructions.RegisterFunction.TheVariants.{And}
+use Rattle.isa.specs.declared.instructions.ImmediateFunction.TheVariants.{Andi}
+use Rattle.isa.specs.declared.instructions.Condition.TheVariants.{Br}
 use Rattle.listing.specs.declared.records.Operation.{Operation}
-use Rattle.listing.specs.declared.records.Operation.TheVariants.{Add, Sub, Addi, Register, Immediate, Lw, Lb, Sw, Sb, Jal, Call, Branch, Cmp, Cmpi, J}
-use Rattle.listing.specs.declared.records.Operation.TheVariants.{Lea, Lbs, Nop, Mov, Ret, Reti, Sxt, Subi, Zext, Text, Data, Byte, Word, Align, Label}
+use Rattle.listing.specs.declared.records.Operation.TheVariants.{Register, Immediate, Branch}
 use Rattle.listing.specs.declared.records.Record.{Record}
 use Rattle.listing.specs.Reading.{wide, operation_of, record_with, record_of, read_record}
-use Rattle.listing.specs.Packing.{operation_number, head_of, wide_bytes, record_bytes, in_size, write_record, InSize, WritesBack, ReadsBack}
+use Rattle.listing.specs.Packing.{operation_number, head_of, wide_bytes, record_bytes, in_size, InSize, ReadsBack}
 
 -- an operation's number is of seven bits, and names that operation
 abbrev Numbered : Operation → Type 0
@@ -31,15 +27,8 @@ numbered (Branch _) = (lit< tt, refl)
 numbered _ = (lit< tt, refl)
 
 -- the test of the sizes tells
-sizes : (r : Record) → Decides (in_size r) (InSize r)
-sizes r =
-    let label = Decides-and (ltb r.reference 2) (ltb r.label 0x1000) (Decides-ltb r.reference 2) (Decides-ltb r.label 0x1000) in
-    let rb = Decides-and (ltb r.rb 16) (ltb r.reference 2 && ltb r.label 0x1000) (Decides-ltb r.rb 16) label in
-    let ra = Decides-and (ltb r.ra 16) (ltb r.rb 16 && (ltb r.reference 2 && ltb r.label 0x1000)) (Decides-ltb r.ra 16) rb in
-    let rd = Decides-and (ltb r.rd 16) (ltb r.ra 16 && (ltb r.rb 16 && (ltb r.reference 2 && ltb r.label 0x1000))) (Decides-ltb r.rd 16) ra in
-    Decides-like (in_size r)
-    (λ h. record { rd = h.0; ra = h.1.0; rb = h.1.1.0; reference = h.1.1.1.0; label = h.1.1.1.1 })
-    (λ h. (h.rd, (h.ra, (h.rb, (h.reference, h.label))))) rd
+sized : (r : Record) → InSize r → in_size r ≡ true
+sized r h = grind (arith, h.rd, h.ra, h.rb, h.reference, h.label)
 
 -- the four bytes of a number make it
 whole : (n : ℕ) → n < 4294967296 → n / 16777216 % 256 * 16777216 + n / 65536 % 256 * 65536 + n / 256 % 256 * 256 + n % 256 ≡ n
@@ -67,12 +56,6 @@ reads_bytes r h f =
     ∙ (λ i. record_with (operation_of (eo i)) n m)
     ∙ (λ i. record_with ((numbered r.operation).1 i) n m)
     ∙ (λ i. Some (record { operation = r.operation; rd = ed i; ra = ea i; rb = eb i; reference = er i; label = el i; constant = ec i }))
-
-pub writes_back : (r : Record) → SFits w32 r.constant → WritesBack r (write_record r)
-writes_back r f =
-    cond_both (in_size r) (Ok (record_bytes r)) (Err refusal.Field) (WritesBack r)
-    (λ e. let h = (sizes r).0 e in (h, reads_bytes r h f))
-    (λ e. ((λ h. both_ways (in_size r) e ((sizes r).1 h)), refl))
 
 -- a number of seven bits is the number of the operation that it names, where it names one: as a test, which antt computes at every number
 names : Option Operation → ℕ → Bool
@@ -121,7 +104,7 @@ numbers_back l n m w e hn hm (Some o) q =
     } in
     let h : InSize r = record { rd = omega arith; ra = omega arith; rb = omega arith; reference = omega arith; label = omega arith } in
     let a : head_of r ≡ n = joined n (operation_number o) k in
-    cond-true (in_size r) (Ok (record_bytes r)) (Err refusal.Field) ((sizes r).1 h)
+    cond-true (in_size r) (Ok (record_bytes r)) (Err refusal.Field) (sized r h)
     ∙ (λ i. Ok (wide_bytes (a i) ++ wide_bytes (of_z-to_z {w = w32} {n = m} (record { fits = hm }) i)))
     ∙ ap Ok e
 numbers_back l n m w e hn hm None q =
@@ -130,16 +113,8 @@ numbers_back l n m w e hn hm None q =
 -- a list of eight
 eight : (l : List ℕ) → length l ≡ 8
     → get_or l 0 0 ∷ get_or l 1 0 ∷ get_or l 2 0 ∷ get_or l 3 0 ∷ get_or l 4 0 ∷ get_or l 5 0 ∷ get_or l 6 0 ∷ get_or l 7 0 ∷ [] ≡ l
-eight [] e = absurd (omega arith)
-eight (a ∷ []) e = absurd (omega arith)
-eight (a ∷ b ∷ []) e = absurd (omega arith)
-eight (a ∷ b ∷ c ∷ []) e = absurd (omega arith)
-eight (a ∷ b ∷ c ∷ d ∷ []) e = absurd (omega arith)
-eight (a ∷ b ∷ c ∷ d ∷ f ∷ []) e = absurd (omega arith)
-eight (a ∷ b ∷ c ∷ d ∷ f ∷ g ∷ []) e = absurd (omega arith)
-eight (a ∷ b ∷ c ∷ d ∷ f ∷ g ∷ h ∷ []) e = absurd (omega arith)
 eight (a ∷ b ∷ c ∷ d ∷ f ∷ g ∷ h ∷ k ∷ []) e = refl
-eight (a ∷ b ∷ c ∷ d ∷ f ∷ g ∷ h ∷ k ∷ m ∷ l) e = absurd (omega arith)
+eight l e = absurd (omega arith)
 
 -- the bytes of the number that four bytes make
 parts : (a b c d : ℕ) → a < 256 → b < 256 → c < 256 → d < 256

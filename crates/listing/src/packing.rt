@@ -70,8 +70,11 @@ impl Record {
         [a, b, c, d, e, f, g, h]
     }
 
-    fn pack(self) -> Result<[u8; 8], Refusal>
-        ensures { result ≡ write_record self }
+    // The record's eight bytes, which read as that record; or a refusal where a field is too large for
+    // its bits.
+    pub fn write(self) -> Result<[u8; 8], Refusal>
+        ensures value { result ≡ write_record self }
+        ensures back { WritesBack self result }
     {
         if self.rd < 16
             && self.ra < 16
@@ -83,14 +86,5 @@ impl Record {
         } else {
             Err(Refusal::Field)
         }
-    }
-
-    // The record's eight bytes, which read as that record; or a refusal where a field is too large for
-    // its bits.
-    pub fn write(self) -> Result<[u8; 8], Refusal>
-        ensures value { result ≡ write_record self }
-        ensures back { WritesBack self result }
-    {
-        self.pack()
     }
 }

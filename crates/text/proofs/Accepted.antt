@@ -1,8 +1,7 @@
 -- What the acceptance of a listing says of each of its records.
-use Rattle.std.proofs.Common.{◌≡◌, ℕ, zero, suc, ◌/◌, ◌%◌, ◌<◌, ◌≤◌, Bool, true, false, not, eqb, ltb, ◌⊎◌, List, [], ◌∷◌, length, Some, None, Option, sym, refl, ap, ◌∙◌, inl, inr, arith}
+use Rattle.std.proofs.Common.{◌≡◌, ℕ, zero, suc, ◌/◌, ◌<◌, ◌≤◌, Bool, true, false, ◌⊎◌, List, [], ◌∷◌, length, Some, None, Option, sym, refl, ap, ◌∙◌, inl, inr, arith}
 use Rattle.std.proofs.lemmas.Bool.{cases_eq, ltb-false}
 use Rattle.isa.specs.declared.refusals.Refusal.{Refusal}
-use Rattle.isa.specs.declared.refusals.Refusal.TheVariants as refusal
 use Rattle.listing.specs.declared.records.Record.{Record}
 use Rattle.listing.specs.Checks.{when, first_some}
 use Rattle.listing.specs.Reading.{record_at}
@@ -10,7 +9,7 @@ use Rattle.listing.specs.Rules.{rule_refusal}
 use Rattle.listing.specs.Meaning.{meaning}
 use Rattle.text.specs.declared.places.Layout.{Layout}
 use Rattle.text.specs.declared.outcomes.Refused.{Refused}
-use Rattle.text.specs.Layout.{misplaced, twice, parted_at, place_refusal, record_refusal, refused_at, layout_refusal, laid, first_refused, layout_refused}
+use Rattle.text.specs.Layout.{misplaced, twice, parted_at, record_refusal, refused_at, layout_refusal, laid, first_refused, layout_refused}
 use Rattle.text.specs.Image.{text_length, image_length}
 use Rattle.text.specs.Values.{value_refused}
 use Rattle.text.specs.Answer.{failure}

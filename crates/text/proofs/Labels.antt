@@ -1,7 +1,7 @@
 -- A label of an accepted listing keeps the mark that its record gave it.
-use Rattle.std.proofs.Common.{◌≡◌, ℕ, zero, suc, ◌<◌, ◌≤◌, Bool, true, false, cond, not, ◌&&◌, ◌||◌, eqb, ltb, ◌≢◌, ◌⊎◌, List, [], ◌∷◌, length, get_or, set, is_some, Some, None, Option, sym, refl, ap, ◌∙◌, inl, inr, arith, length-set, get_or-set_other, get_or-set_same}
+use Rattle.std.proofs.Common.{◌≡◌, ℕ, zero, suc, ◌<◌, ◌≤◌, Bool, true, false, not, ◌&&◌, ◌⊎◌, List, [], ◌∷◌, length, get_or, Some, None, Option, refl, ap, ◌∙◌, inl, inr, arith, length-set, get_or-set_other, get_or-set_same}
 use lib.ListN.{length-replicate}
-use Rattle.std.proofs.lemmas.Bool.{cases_eq, ltb-true, and_parts, false≢true}
+use Rattle.std.proofs.lemmas.Bool.{cases_eq, ltb-true}
 use Rattle.isa.specs.declared.refusals.Refusal.TheVariants as refusal
 use Rattle.listing.specs.declared.records.Record.{Record}
 use Rattle.listing.specs.declared.items.Item.{Item}
@@ -12,7 +12,7 @@ use Rattle.listing.specs.Rules.{bad_field, bad_constant}
 use Rattle.listing.specs.Meaning.{meaning}
 use Rattle.text.specs.declared.places.Mark.{Mark}
 use Rattle.text.specs.declared.places.Place.{Place}
-use Rattle.text.specs.Layout.{is_label, mark_at, marked_by, twice, laid, laid_more, layout_refused}
+use Rattle.text.specs.Layout.{mark_at, marked_by, twice, laid, laid_more, layout_refused}
 use Rattle.text.proofs.Accepted.{first_none, when_none, record_fits}
 
 -- the table keeps its 1,024 rows

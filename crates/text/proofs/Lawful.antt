@@ -6,7 +6,7 @@ use Rattle.isa.specs.Laws.{InSize}
 use Rattle.listing.specs.Operands.{with_immediate}
 use Rattle.listing.specs.declared.records.Operation.{Operation}
 use Rattle.listing.specs.declared.records.Operation.TheVariants.{Add, Sub, Addi, Register, Immediate, Lw, Lb, Sw, Sb, Jal, Call, Branch, Cmp, Cmpi, J}
-use Rattle.listing.specs.declared.records.Operation.TheVariants.{Lea, Lbs, Nop, Mov, Ret, Reti, Sxt, Subi, Zext, Text, Data, Byte, Word, Align, Label}
+use Rattle.listing.specs.declared.records.Operation.TheVariants.{Lea, Lbs, Nop, Mov, Ret, Reti, Sxt, Subi, Zext}
 use Rattle.listing.specs.declared.items.Body.{Body}
 use Rattle.listing.specs.declared.items.First.{First}
 use Rattle.listing.specs.declared.items.First.TheVariants as first

@@ -7,7 +7,7 @@ use Rattle.listing.specs.declared.items.Section.TheVariants as section
 use Rattle.listing.specs.declared.items.Slot.{Slot}
 use Rattle.listing.specs.declared.items.Mend.{Mend}
 use Rattle.listing.specs.declared.items.Item.{Item}
-use Rattle.listing.specs.declared.items.Item.TheVariants.{Words, Byte, Word, Align, Label, Section as Turn}
+use Rattle.listing.specs.declared.items.Item.TheVariants.{Words, Align}
 use Rattle.listing.specs.Numbers.{bits16}
 use Rattle.listing.specs.Reading.{record_at}
 use Rattle.listing.specs.Meaning.{meaning}

@@ -4,7 +4,7 @@ use Rattle.isa.specs.declared.instructions.Instruction.{Instruction}
 use Rattle.isa.specs.Words.{read_word}
 use Rattle.isa.specs.Registers.{result, late}
 use Rattle.text.specs.Image.{image, text_length, word_at}
-use Rattle.text.specs.Origins.{Cause, Own, Prefix, Inserted, Datum, Alignment, End, Origin, image_origins}
+use Rattle.text.specs.Origins.{Cause, Datum, Origin, image_origins}
 
 -- a byte or word record
 abbrev pub is_datum : Cause → Bool

@@ -11,7 +11,7 @@ use Rattle.listing.specs.declared.items.Section.TheVariants as section
 use Rattle.listing.specs.declared.items.Slot.{Slot}
 use Rattle.listing.specs.declared.items.Slot.TheVariants as slot
 use Rattle.listing.specs.declared.items.Item.{Item}
-use Rattle.listing.specs.declared.items.Item.TheVariants.{Words, Byte, Word, Align, Label, Section as Turn}
+use Rattle.listing.specs.declared.items.Item.TheVariants.{Words, Byte, Word, Align}
 use Rattle.listing.specs.Numbers.{bits16}
 use Rattle.listing.specs.Operands.{with_immediate}
 use Rattle.listing.specs.Reading.{record_at}

@@ -3,7 +3,7 @@ use Rattle.std.specs.Prelude.{◌≡◌, ℕ, ◌+◌, ◌*◌, ◌/◌, ◌<◌
 use Rattle.isa.specs.declared.instructions.ImmediateField.{ImmediateField}
 use Rattle.isa.specs.declared.instructions.RegisterFunction.TheVariants as function
 use Rattle.isa.specs.declared.instructions.Instruction.{Instruction}
-use Rattle.isa.specs.declared.instructions.Instruction.TheVariants.{Add, Sub, Addi, Register, Immediate, Lw, Lb, Sw, Sb, Jal, Branch, Call, Imm}
+use Rattle.isa.specs.declared.instructions.Instruction.TheVariants.{Register, Imm}
 use Rattle.isa.specs.Words.{read_word}
 use Rattle.isa.specs.Immediates.{immediate_field, formed}
 use Rattle.listing.specs.declared.items.Body.{Body}

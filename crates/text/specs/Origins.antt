@@ -10,7 +10,7 @@ use Rattle.listing.specs.declared.items.Slot.TheVariants as slot
 use Rattle.listing.specs.declared.items.Mend.{Mend}
 use Rattle.listing.specs.declared.items.Mend.TheVariants as mend
 use Rattle.listing.specs.declared.items.Item.{Item}
-use Rattle.listing.specs.declared.items.Item.TheVariants.{Words, Byte, Word, Align, Label, Section as Turn}
+use Rattle.listing.specs.declared.items.Item.TheVariants.{Words, Byte, Word, Align}
 use Rattle.listing.specs.Numbers.{bits16}
 use Rattle.listing.specs.Reading.{record_at}
 use Rattle.listing.specs.Meaning.{meaning}

@@ -6,7 +6,7 @@ use Rattle.listing.specs.declared.records.Record.{Record}
 use Rattle.listing.specs.declared.items.First.{First}
 use Rattle.listing.specs.declared.items.First.TheVariants as first
 use Rattle.listing.specs.declared.items.Item.{Item}
-use Rattle.listing.specs.declared.items.Item.TheVariants.{Words, Byte, Word, Align, Label, Section as Turn}
+use Rattle.listing.specs.declared.items.Item.TheVariants.{Words}
 use Rattle.listing.specs.Numbers.{bits16, within}
 use Rattle.listing.specs.Checks.{when, first_some}
 use Rattle.listing.specs.Reading.{record_at}

@@ -1,4 +1,4 @@
-use Rattle.std.proofs.Common.{◌≡◌, ◌+◌, ◌*◌, ◌/◌, max, cond, [], length, get_or, refl, ap, ◌∙◌, add-one, arith, rules, w16}
+use Rattle.std.proofs.Common.{◌≡◌, ◌+◌, ◌*◌, ◌/◌, max, cond, [], length, get_or, ap, ◌∙◌, add-one, arith, rules, w16}
 use Rattle.std.specs.Int.{from_be_bytes}
 use Rattle.isa.specs.Registers.{reads_interlocked}
 use Rattle.text.specs.Image.{word_at}

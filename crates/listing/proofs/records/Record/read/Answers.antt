@@ -1,4 +1,4 @@
-use Rattle.std.proofs.Common.{◌≡◌, ℕ, ◌/◌, ◌<◌, length, get_or, sym, ap, ◌∙◌, subst, rules}
+use Rattle.std.proofs.Common.{◌≡◌, ℕ, ◌<◌, length, get_or, sym, ◌∙◌, subst, rules}
 use Rattle.listing.specs.Reading.{wide, record_of, read_record}
 use Rattle.listing.specs.Packing.{ReadsBack}
 use Rattle.listing.proofs.Back.{reads_back}

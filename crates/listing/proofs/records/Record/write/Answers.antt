@@ -1,9 +1,11 @@
-use Rattle.std.proofs.Common.{sym, subst, rules}
-use Rattle.listing.specs.Packing.{WritesBack}
-use Rattle.listing.proofs.Back.{writes_back}
+use Rattle.std.proofs.Common.{ap, ◌∙◌, rules}
+use Rattle.listing.specs.Reading.{read_record}
+use Rattle.listing.specs.Packing.{InSize}
+use Rattle.listing.proofs.Back.{reads_bytes}
 use Rattle.listing.proofs.records.Record.write.Goals as goal
 
-pub returns : goal.returns
-returns c =
+pub returns-then-self-lt4096-clause-back : goal.returns-then-self-lt4096-clause-back
+returns-then-self-lt4096-clause-back c =
     let r = c.args.self in
-    record { value = c.pack.ensures; back = subst (WritesBack r) (sym c.pack.ensures) (writes_back r (search rules)) }
+    let sized : InSize r = search rules in
+    (sized, ap read_record c.bytes.ensures ∙ reads_bytes r sized (search rules))
