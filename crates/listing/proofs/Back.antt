@@ -1,9 +1,9 @@
 -- Writing and reading records are one another's inverse.
-use Rattle.std.proofs.Common.{◌≡◌, ℕ, zero, suc, ◌+◌, ◌*◌, ◌/◌, ◌%◌, ◌<◌, Bool, true, ◌&&◌, eqb, List, [], ◌∷◌, ◌++◌, length, get_or, Some, None, Ok, Err, Option, refl, ap, ◌∙◌, subst, arith, lit<, to_z-of_z, w32, SFits, to_z, of_z}
+use Rattle.std.proofs.Common.{◌≡◌, ℕ, ◌+◌, ◌*◌, ◌/◌, ◌%◌, ◌<◌, Bool, true, eqb, List, [], ◌∷◌, ◌++◌, length, get_or, Some, None, Ok, Err, Option, refl, ap, ◌∙◌, subst, arith, lit<, to_z-of_z, w32, SFits, to_z, of_z}
 use mir.Facts.{Fits-of_z, of_z-to_z}
 use Rattle.std.proofs.lemmas.Bool.{cond-true, eqb-true}
-use Rattle.std.proofs.lemmas.Bool.Decides.{Decides-below_and}
 use Rattle.isa.specs.declared.refusals.Refusal.TheVariants as refusal
+use Rattle.listing.proofs.Below.{every, below}
 use Rattle.isa.specs.declared.instructions.RegisterFunction.TheVariants.{And}
 use Rattle.isa.specs.declared.instructions.ImmediateFunction.TheVariants.{Andi}
 use Rattle.isa.specs.declared.instructions.Condition.TheVariants.{Br}
@@ -62,20 +62,10 @@ names : Option Operation → ℕ → Bool
 names (Some o) n = eqb (operation_number o) n
 names None n = true
 
-every : ℕ → Bool
-every zero = true
-every (suc n) = names (operation_of n) n && every n
-
-all : every 128 ≡ true
-unfolding every names
-all = refl
-
 same_number : (n : ℕ) → n < 128 → (o : Operation) → operation_of n ≡ Some o → operation_number o ≡ n
 unfolding every names
 same_number n h o e =
-    let p : ℕ → Bool = λ v. names (operation_of v) v in
-    let q : p n ≡ true = (Decides-below_and p (λ v. p v ≡ true) every (λ v. ((λ t. t), (λ t. t))) refl (λ k. refl) 128).0 all n h in
-    eqb-true (operation_number o) n (subst (λ x. names x n ≡ true) e q)
+    eqb-true (operation_number o) n (subst (λ x. names x n ≡ true) e (below (λ v. names (operation_of v) v) 128 refl n h))
 
 -- the fields of a head make it
 joined : (n o : ℕ) → o ≡ n / 0x200_0000
@@ -108,7 +98,7 @@ numbers_back l n m w e hn hm (Some o) q =
     ∙ (λ i. Ok (wide_bytes (a i) ++ wide_bytes (of_z-to_z {w = w32} {n = m} (record { fits = hm }) i)))
     ∙ ap Ok e
 numbers_back l n m w e hn hm None q =
-    λ o z. let y = (numbered o).1 in let x : operation_number o ≡ n / 0x200_0000 = z ∙ ap (λ v. v / 0x200_0000) w in let t : ◌≡◌ {A = ℕ} 0 1 = cc in omega arith
+    λ o z. let y = (numbered o).1 in let x : operation_number o ≡ n / 0x200_0000 = z ∙ ap (λ v. v / 0x200_0000) w in absurd cc
 
 -- a list of eight
 eight : (l : List ℕ) → length l ≡ 8

@@ -109,11 +109,10 @@ impl Template {
         ensures { result ≡ slice_index_or (mended mend (template self.body self.record)) k nop }
     {
         match (mend, k) {
-            (Mend::Keep, _) => self.unmended_slot(k),
             (Mend::Swap(i), 0) => Slot::Word(i),
-            (Mend::Swap(_), 1..) => self.unmended_slot(k),
-            (Mend::Nop, 1..) => self.unmended_slot(k - 1),
-            (Mend::Nop, _) => Slot::Word(NOP),
+            (Mend::Nop, 0) => Slot::Word(NOP),
+            (Mend::Nop, _) => self.unmended_slot(k - 1),
+            _ => self.unmended_slot(k),
         }
     }
 }

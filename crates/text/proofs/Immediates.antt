@@ -18,6 +18,7 @@ use Rattle.listing.specs.declared.items.Slot.TheVariants as slot
 use Rattle.listing.specs.declared.items.Mend.TheVariants as mend
 use Rattle.listing.specs.Numbers.{bits16}
 use Rattle.listing.specs.Slots.{number, number_of, fits, short, field_of, first_slots, rest_slots, template, nop, slot_swapped, clash, mend_by, mend_of, mended, slots}
+use Rattle.listing.proofs.Below.{every, below}
 use Rattle.text.specs.Image.{filled}
 use Rattle.isa.specs.declared.instructions.ImmediateField.{ImmediateField}
 use Rattle.isa.specs.Immediates.{immediate_field, extended}
@@ -25,16 +26,6 @@ use Rattle.text.specs.Immediates.{prefix_of, shown, immediates, first_asks, rest
 use Rattle.text.proofs.Swap.{swap_cases}
 use Rattle.text.proofs.Lawful.{LawfulFirst}
 use Rattle.text.proofs.InSize.{bits16_small}
-
--- a finite check
-module _ (p : ℕ → Bool) where
-  every : ℕ → Bool
-  every zero = true
-  every (suc n) = p n && every n
-
-  below : (n : ℕ) → every n ≡ true → (k : ℕ) → k < n → p k ≡ true
-  unfolding every
-  below n e k h = (Decides-below_and p (λ v. p v ≡ true) every (λ v. ((λ e. e), (λ e. e))) refl (λ n. refl) n).0 e k h
 
 kept : ImmediateForm → ℤ → Bool
 kept g z = eqb (extended g (field_of g z)) (bits16 z)

@@ -1,7 +1,7 @@
 -- The branches and calls of an accepted listing reach their targets.
 use Rattle.std.proofs.Common.{◌≡◌, ℕ, ◌+◌, ◌-◌, ◌*◌, ◌/◌, ◌%◌, ◌<◌, ◌≤◌, Bool, true, false, not, ◌&&◌, eqb, ltb, leb, List, [], ◌∷◌, length, get_or, ℤ, pos, negsuc, ◌-ℤ◌, Some, None, Ok, sym, refl, ap, ◌∙◌, arith}
 use Rattle.std.proofs.lemmas.Int.{ints}
-use Rattle.std.proofs.lemmas.Bool.{cond_both, cond-true, cond-false, lt-ltb, le-ltb, leb-true, ltb-true, eqb-true, and_parts, false≢true}
+use Rattle.std.proofs.lemmas.Bool.{cond_both, cond-true, cond-false, lt-ltb, le-ltb, leb-true, ltb-true, eqb-true, and_parts, not-false, false≢true}
 use Rattle.isa.specs.declared.instructions.Condition.{Condition}
 use Rattle.isa.specs.declared.instructions.Instruction.TheVariants as word
 use Rattle.isa.specs.Words.{read_word}
@@ -90,11 +90,7 @@ record Target (v : ℤ) : Type 0 where
   small : number < 65536
 
 target : (v : ℤ) → not (within (pos 0) (pos 65535) v) ≡ false → Target v
-target (pos n) h = record { number = n; is = refl; small = go (leb 0 n && leb n 65535) refl h }
-  where
-    go : (b : Bool) → (leb 0 n && leb n 65535) ≡ b → not b ≡ false → n < 65536
-    go true e h = let le = leb-true n 65535 (and_parts (leb 0 n) (leb n 65535) e).1 in omega arith
-    go false e h = absurd (false≢true (sym h))
+target (pos n) h = record { number = n; is = refl; small = let le = leb-true n 65535 (and_parts (leb 0 n) (leb n 65535) (not-false _ h)).1 in omega arith }
 target (negsuc n) h = absurd (false≢true (sym h))
 
 module _ (l : List ℕ) (ok : layout_refused l (length l / 8) ≡ None)

@@ -2,7 +2,7 @@
 use Rattle.std.proofs.Common.{◌≡◌, ℕ, zero, suc, ◌+◌, ◌-◌, ◌*◌, ◌/◌, ◌%◌, ◌<◌, ◌≤◌, Bool, true, false, cond, not, ◌&&◌, eqb, ◌⊎◌, List, [], ◌∷◌, ◌++◌, length, get_or, replicate, ℤ, pos, Some, None, Ok, Err, Option, Result, unwrap_or, sym, refl, ap, ◌∙◌, subst, inl, inr, ⊎_elim, append_assoc, append-nil, arith, length-append}
 use lib.ListN.{length-replicate}
 use Rattle.std.proofs.lemmas.List.{get_or_append_left}
-use Rattle.std.proofs.lemmas.Bool.{cond_both, cond-false, ne_eqb, eqb-true, false≢true}
+use Rattle.std.proofs.lemmas.Bool.{and_parts, cond_both, cond-false, ne_eqb, not-false, eqb-true}
 use Rattle.std.specs.Result.{result_ok}
 use Rattle.isa.specs.declared.instructions.Instruction.{Instruction}
 use Rattle.isa.specs.declared.instructions.Instruction.TheVariants as word
@@ -129,12 +129,7 @@ before_last result ss (suc n) =
     ∙ sym (cond-false (eqb (2 * suc n) 0) result (slot_result (get_or ss (suc n - 1) nop)) (ne_eqb (2 * suc n) 0 (λ e. omega arith)))
 
 even_at : (x : Bool) (n : ℕ) → not (x && eqb (n % 2) 0) ≡ false → n % 2 ≡ 0
-even_at true n e = eqb-true (n % 2) 0 (go (eqb (n % 2) 0) e)
-  where
-    go : (b : Bool) → not b ≡ false → b ≡ true
-    go true e = refl
-    go false e = absurd (false≢true (sym e))
-even_at false n e = absurd (false≢true (sym e))
+even_at x n e = eqb-true (n % 2) 0 (and_parts x (eqb (n % 2) 0) (not-false _ e)).1
 
 module _ (p : Place) (r : Record) (n : ℕ) (v : ℤ) where
   -- what a record in text adds
@@ -185,7 +180,7 @@ module _ (base : ℕ) (labels : List (Option Mark)) (l : List ℕ) where
           → Good (t ++ portion section.Text base labels (laid l n).place x) (o ++ portion_origins section.Text (laid l n).place x n) (laid_more
           (laid l n) x).place.result
           × (length (t ++ portion section.Text base labels (laid l n).place x) ≡ (laid_more (laid l n) x).place.text)
-      go None e g = let z : ◌≡◌ {A = ℕ} 0 1 = cc in absurd (omega arith)
+      go None e g = absurd cc
       go (Some r) e (g, long) =
           let p : Place = (laid l n).place in
           section_good p r n (unwrap_or (value base labels r) (pos 0)) (meaning r) p.section g long

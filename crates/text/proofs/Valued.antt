@@ -1,6 +1,6 @@
 -- The values of an accepted listing's records, and the places of its instructions.
 use Rattle.std.proofs.Common.{◌≡◌, ℕ, ◌/◌, ◌%◌, ◌<◌, Bool, true, false, not, ◌&&◌, eqb, List, [], ◌∷◌, length, get_or, ℤ, pos, ◌+ℤ◌, Some, None, Option, sym, refl, ap, ◌∙◌}
-use Rattle.std.proofs.lemmas.Bool.{cond-true, eqb-true, eq-eqb, false≢true}
+use Rattle.std.proofs.lemmas.Bool.{cond-true, eqb-true, eq-eqb, not-false, false≢true}
 use Rattle.std.specs.Option.{option_map}
 use Rattle.isa.specs.declared.refusals.Refusal.{Refusal}
 use Rattle.isa.specs.declared.refusals.Refusal.TheVariants as refusal
@@ -19,10 +19,6 @@ use Rattle.text.specs.Values.{outside, reaches, value_refusal, checked, value_re
 use Rattle.text.specs.Immediates.{record_value}
 use Rattle.text.proofs.Accepted.{first_none, when_none, refused_none, accepted}
 
-not_false : (b : Bool) → not b ≡ false → b ≡ true
-not_false true h = refl
-not_false false h = absurd (false≢true (sym h))
-
 -- an accepted record has a value, and it passed the checks
 pub record Valued (p : Place) (r : Record) (o : Option ℤ) : Type 0 where
   pub value : ℤ
@@ -40,7 +36,7 @@ passed p r (Some v) h =
       value = v;
       given = refl;
       inside = when_none _ refusal.Value a.0;
-      reached = not_false (reaches (meaning r) p.text v) (when_none _ refusal.Reach b.0);
+      reached = not-false (reaches (meaning r) p.text v) (when_none _ refusal.Reach b.0);
     }
 
 pub valued : (l : List ℕ) → value_refused l (length l / 8) (text_length l (length l / 8)) (laid l (length l / 8)).labels ≡ None
@@ -63,7 +59,7 @@ constant_value l r v given zero' =
 
 -- an instruction that is not misplaced stands in text, at an even address
 pub in_text : (p : Place) (b : Body) → misplaced (Words b) p ≡ false → (p.section ≡ section.Text) × (p.text % 2 ≡ 0)
-in_text p b h = go p.section (not_false (is_text p.section && eqb (p.text % 2) 0) h)
+in_text p b h = go p.section (not-false (is_text p.section && eqb (p.text % 2) 0) h)
   where
     go : (s : Section) → (is_text s && eqb (p.text % 2) 0) ≡ true → (s ≡ section.Text) × (p.text % 2 ≡ 0)
     go section.Text e = (refl, eqb-true (p.text % 2) 0 e)
