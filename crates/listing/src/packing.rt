@@ -6,8 +6,7 @@ use crate::records::{Operation, Record};
 use isa::Refusal;
 
 impl Operation {
-    // `number` and `numbered` are no From and TryFrom: a number that names no operation has no error to
-    // tell, and `read` answers nothing then.
+    // With `numbered` no From and TryFrom: a number that names no operation has no error to tell.
     fn number(self) -> u32
         ensures value { result ≡ operation_number self }
         ensures bound { result < 128 }

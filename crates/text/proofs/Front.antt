@@ -1,15 +1,12 @@
 -- What follows the words does not matter.
-use Rattle.std.proofs.Common.{◌≡◌, ℕ, zero, suc, ◌+◌, ◌*◌, ◌≤◌, max, cond, List, ◌++◌, length, get_or, take, drop, sym, refl, ap, ◌∙◌, arith, take-append-drop, length-take-le}
+use Rattle.std.proofs.Common.{◌≡◌, ℕ, zero, suc, ◌+◌, ◌*◌, ◌≤◌, max, cond, List, ◌++◌, length, take, drop, sym, refl, ap, ◌∙◌, arith, take-append-drop, length-take-le}
 use lib.Seq.{take-append-le}
-use Rattle.std.proofs.lemmas.List.{get_or_append_left}
 use Rattle.isa.specs.Registers.{reads_interlocked}
 use Rattle.text.specs.Runs.{locked, current, longest}
+use Rattle.text.proofs.Words.{word_front}
 
 locked_front : (xs ys : List ℕ) (n : ℕ) → 2 * n + 2 ≤ length xs → locked (xs ++ ys) n ≡ locked xs n
-locked_front xs ys n h =
-    let p : get_or (xs ++ ys) (2 * n) 0 ≡ get_or xs (2 * n) 0 = get_or_append_left xs ys 0 (2 * n) (omega arith) in
-    let q : get_or (xs ++ ys) (2 * n + 1) 0 ≡ get_or xs (2 * n + 1) 0 = get_or_append_left xs ys 0 (2 * n + 1) (omega arith) in
-    λ j. reads_interlocked (p j * 256 + q j)
+locked_front xs ys n h = ap reads_interlocked (word_front xs ys (2 * n) h)
 
 current_front : (xs ys : List ℕ) (n : ℕ) → 2 * n ≤ length xs → current (xs ++ ys) n ≡ current xs n
 unfolding current

@@ -1,6 +1,6 @@
 -- A text grows by a word, a byte of data or a byte of padding, and stays without hazard.
-use Rattle.std.proofs.Common.{◌≡◌, ℕ, ◌+◌, ◌*◌, ◌/◌, ◌%◌, ◌<◌, ◌≤◌, true, false, ◌⊎◌, List, [], ◌∷◌, ◌++◌, length, get_or, Ok, Err, sym, refl, ap, ◌∙◌, subst, inl, inr, ⊎_elim, arith, length-append}
-use Rattle.std.proofs.lemmas.List.{get_or_append_left, get_or-append-add, get_or_past}
+use Rattle.std.proofs.Common.{◌≡◌, ℕ, ◌+◌, ◌/◌, ◌%◌, ◌<◌, ◌≤◌, true, false, ◌⊎◌, List, [], ◌∷◌, ◌++◌, length, get_or, Ok, Err, sym, refl, ap, ◌∙◌, subst, inl, inr, ⊎_elim, arith, length-append}
+use Rattle.std.proofs.lemmas.List.{get_or_append_left, get_or_past}
 use Rattle.std.proofs.lemmas.Bool.{cases_eq, cases_lt, false≢true}
 use Rattle.isa.specs.declared.instructions.Instruction.{Instruction}
 use Rattle.isa.specs.declared.instructions.Instruction.TheVariants as word
@@ -10,6 +10,7 @@ use Rattle.isa.specs.Registers.{result as written, late}
 use Rattle.text.specs.Image.{word_bytes, word_at}
 use Rattle.text.specs.Origins.{Origin}
 use Rattle.text.specs.Hazards.{is_datum, nowhere, Clean, Calm}
+use Rattle.text.proofs.Words.{past, word_front}
 
 pub record Good (t : List ℕ) (o : List Origin) (result : ℕ) : Type 0 where
   pub same : length o ≡ length t
@@ -21,15 +22,6 @@ pub record Good (t : List ℕ) (o : List Origin) (result : ℕ) : Type 0 where
 -- two readings of one word
 one_reading : (w w' : ℕ) (i j : Instruction) → w ≡ w' → read_word w ≡ Ok i → read_word w' ≡ Ok j → i ≡ j
 one_reading w w' i j e p q = let s : read_word w ≡ read_word w' = ap read_word e in cc
-
-past : {A : Type 0} (xs ys : List A) (d : A) (a k : ℕ) → a ≡ length xs + k → get_or (xs ++ ys) a d ≡ get_or ys k d
-past xs ys d a k e = ap (λ j. get_or (xs ++ ys) j d) e ∙ get_or-append-add xs ys k d
-
-pub word_front : (t x : List ℕ) (a : ℕ) → a + 2 ≤ length t → word_at (t ++ x) a ≡ word_at t a
-word_front t x a h =
-    let p : get_or (t ++ x) a 0 ≡ get_or t a 0 = get_or_append_left t x 0 a (omega arith) in
-    let q : get_or (t ++ x) (a + 1) 0 ≡ get_or t (a + 1) 0 = get_or_append_left t x 0 (a + 1) (omega arith) in
-    λ j. p j * 256 + q j
 
 clean_front : (t : List ℕ) (o y : List Origin) (a : ℕ) → length o ≡ length t → a < length t → Clean (o ++ y) a → Clean o a
 clean_front t o y a e h c = ap (λ x. is_datum x.cause) (sym (get_or_append_left o y nowhere a (omega arith))) ∙ c

@@ -1,3 +1,4 @@
+pub mod Words
 pub mod LongestRun
 pub mod Pairs
 pub mod Front

@@ -1,6 +1,5 @@
 -- Each word of an accepted record stands in the image at its address, and reads as what was meant.
 use Rattle.std.proofs.Common.{◌≡◌, ℕ, zero, suc, ◌+◌, ◌*◌, ◌/◌, ◌%◌, ◌<◌, ◌≤◌, ◌⊎◌, List, [], ◌∷◌, ◌++◌, length, get_or, ℤ, pos, Some, None, Ok, unwrap_or, sym, refl, ap, ◌∙◌, subst, inl, inr, arith}
-use Rattle.std.proofs.lemmas.List.{get_or-append-add}
 use Rattle.std.proofs.lemmas.Bool.{cases_eq}
 use Rattle.isa.specs.Words.{read_word}
 use Rattle.listing.specs.declared.items.Body.{Body}
@@ -17,7 +16,8 @@ use Rattle.text.specs.Image.{address, filled, word_of, word_bytes, words, bytes_
 use Rattle.text.specs.Immediates.{record_value, nothing, ImmediatesKept}
 use Rattle.text.specs.Sizes.{address_of, own_bytes}
 use Rattle.text.specs.Values.{value_refused}
-use Rattle.text.proofs.Good.{small_word, word_front}
+use Rattle.text.proofs.Words.{word_front, word_past}
+use Rattle.text.proofs.Good.{small_word}
 use Rattle.text.proofs.Lengths.{words_length}
 use Rattle.text.proofs.Accepted.{record_fits}
 use Rattle.text.proofs.Records.{Part, part_at, own_part}
@@ -25,14 +25,6 @@ use Rattle.text.proofs.Valued.{Valued, valued, constant_value, in_text}
 use Rattle.text.proofs.Lawful.{body_lawful}
 use Rattle.text.proofs.InSize.{words_in_size}
 use Rattle.text.proofs.Immediates.{fill, slots_kept}
-
--- a word behind other bytes
-word_past : (t x : List ℕ) (a k : ℕ) → a ≡ length t + k → word_at (t ++ x) a ≡ word_at x k
-word_past t x a k e =
-    let p : get_or (t ++ x) a 0 ≡ get_or x k 0 = ap (λ j. get_or (t ++ x) j 0) e ∙ get_or-append-add t x k 0 in
-    let at : a + 1 ≡ length t + (k + 1) = omega arith in
-    let q : get_or (t ++ x) (a + 1) 0 ≡ get_or x (k + 1) 0 = ap (λ j. get_or (t ++ x) j 0) at ∙ get_or-append-add t x (k + 1) 0 in
-    λ j. p j * 256 + q j
 
 words_at : (z : ℤ) (at : ℕ) (ss : List Slot) (m k : ℕ) → k < m → word_of (filled z (at + 2 * k) (get_or ss k nop)) < 65536
     → word_at (words z at ss m) (2 * k) ≡ word_of (filled z (at + 2 * k) (get_or ss k nop))

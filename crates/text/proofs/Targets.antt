@@ -1,5 +1,5 @@
 -- The branches and calls of an accepted listing reach their targets.
-use Rattle.std.proofs.Common.{◌≡◌, ℕ, ◌+◌, ◌-◌, ◌*◌, ◌/◌, ◌%◌, ◌<◌, ◌≤◌, Bool, true, false, not, ◌&&◌, eqb, ltb, leb, List, [], ◌∷◌, length, get_or, ℤ, pos, negsuc, ◌-ℤ◌, Some, None, Ok, sym, refl, ap, ◌∙◌, arith}
+use Rattle.std.proofs.Common.{◌≡◌, ℕ, ◌+◌, ◌-◌, ◌*◌, ◌/◌, ◌%◌, ◌<◌, ◌≤◌, true, false, not, eqb, ltb, leb, List, [], ◌∷◌, length, get_or, ℤ, pos, negsuc, ◌-ℤ◌, Some, None, Ok, sym, refl, ap, ◌∙◌, arith}
 use Rattle.std.proofs.lemmas.Int.{ints}
 use Rattle.std.proofs.lemmas.Bool.{cond_both, cond-true, cond-false, lt-ltb, le-ltb, leb-true, ltb-true, eqb-true, and_parts, not-false, false≢true}
 use Rattle.isa.specs.declared.instructions.Condition.{Condition}
@@ -28,17 +28,12 @@ use Rattle.text.proofs.Stand.{known}
 
 -- a sum of even numbers
 odd_not : (a b c : ℕ) → a % 2 ≡ 0 → c % 2 ≡ 0 → b + (a + 4) ≡ c → b ≡ 2 * (b / 2)
-odd_not a b c ea ec e =
-    let a' : a ≡ 2 * (a / 2) = omega arith in
-    let c' : c ≡ 2 * (c / 2) = omega arith in
-    omega arith
+odd_not a b c ea ec e = omega arith
 
 ahead : (at n m : ℕ) → at % 2 ≡ 0 → n < 65536 → n % 2 ≡ 0 → m ≤ 254 → m + (at + 4) ≡ n → branch_target at (m % 65536 / 2 % 256) ≡ n
 ahead at n m ea small en le e =
     let em : m ≡ 2 * (m / 2) = odd_not at m n ea en e in
-    let r : m % 65536 ≡ m = omega arith in
-    let half : m / 2 % 256 ≡ m / 2 = omega arith in
-    let d : m % 65536 / 2 % 256 ≡ m / 2 = ap (λ k. k / 2 % 256) r ∙ half in
+    let d : m % 65536 / 2 % 256 ≡ m / 2 = omega arith in
     let lt : m / 2 < 128 = omega arith in
     let sum : at + 4 + m / 2 * 2 ≡ n = omega arith in
     let whole : n % 65536 ≡ n = omega arith in
@@ -47,14 +42,9 @@ ahead at n m ea small en le e =
 
 back : (at n m : ℕ) → at % 2 ≡ 0 → n < 65536 → n % 2 ≡ 0 → m ≤ 255 → n + (m + 1) ≡ at + 4 → branch_target at ((65535 - m % 65536) / 2 % 256) ≡ n
 back at n m ea small en le e =
-    let a' : at ≡ 2 * (at / 2) = omega arith in
-    let n' : n ≡ 2 * (n / 2) = omega arith in
     let em : m ≡ 2 * (m / 2) + 1 = omega arith in
     let k : ℕ = m / 2 in
-    let r : m % 65536 ≡ m = omega arith in
-    let q : (65535 - m) / 2 ≡ 32767 - k = omega arith in
-    let y : (32767 - k) % 256 ≡ 255 - k = omega arith in
-    let d : (65535 - m % 65536) / 2 % 256 ≡ 255 - k = ap (λ j. (65535 - j) / 2 % 256) r ∙ ap (λ j. j % 256) q ∙ y in
+    let d : (65535 - m % 65536) / 2 % 256 ≡ 255 - k = omega arith in
     let ge : 128 ≤ 255 - k = omega arith in
     let sum : at + 4 + (255 - k + 65280) * 2 ≡ n + 131072 = omega arith in
     let whole : (n + 131072) % 65536 ≡ n = omega arith in

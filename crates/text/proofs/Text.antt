@@ -1,5 +1,5 @@
 -- The text of an accepted listing has no hazard.
-use Rattle.std.proofs.Common.{◌≡◌, ℕ, zero, suc, ◌+◌, ◌-◌, ◌*◌, ◌/◌, ◌%◌, ◌<◌, ◌≤◌, Bool, true, false, cond, not, ◌&&◌, eqb, ◌⊎◌, List, [], ◌∷◌, ◌++◌, length, get_or, replicate, ℤ, pos, Some, None, Ok, Err, Option, Result, unwrap_or, sym, refl, ap, ◌∙◌, subst, inl, inr, ⊎_elim, append_assoc, append-nil, arith, length-append}
+use Rattle.std.proofs.Common.{◌≡◌, ℕ, zero, suc, ◌+◌, ◌-◌, ◌*◌, ◌/◌, ◌%◌, ◌<◌, ◌≤◌, Bool, false, cond, not, ◌&&◌, eqb, ◌⊎◌, List, [], ◌∷◌, ◌++◌, length, get_or, replicate, ℤ, pos, Some, None, Ok, Err, Option, Result, unwrap_or, sym, refl, ap, ◌∙◌, subst, inl, inr, ⊎_elim, append_assoc, append-nil, arith, length-append}
 use lib.ListN.{length-replicate}
 use Rattle.std.proofs.lemmas.List.{get_or_append_left}
 use Rattle.std.proofs.lemmas.Bool.{and_parts, cond_both, cond-false, ne_eqb, not-false, eqb-true}
@@ -35,7 +35,8 @@ use Rattle.text.specs.Origins.{word_cause, word_causes, causes_of, at_index, por
 use Rattle.text.specs.Hazards.{is_datum, nowhere, Clean, NoHazard}
 use Rattle.text.proofs.Accepted.{accepted, fitting, refused_none}
 use Rattle.text.proofs.Lengths.{words_length, item_length, text_origins_long}
-use Rattle.text.proofs.Good.{Good, code, byte, pad, start_good, small_word, word_front}
+use Rattle.text.proofs.Good.{Good, code, byte, pad, start_good, small_word}
+use Rattle.text.proofs.Words.{word_front}
 use Rattle.text.proofs.Safe.{Safe, before, safe_at, slots_safe, Quiet}
 
 -- a word that is written reads as its instruction, or as one that neither reads late nor writes
