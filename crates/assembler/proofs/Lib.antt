@@ -1,3 +1,4 @@
+pub mod Chunks
+pub mod Passes
+pub mod Sections
 pub mod Steps
-pub mod Stores
-pub mod Values

@@ -1,3 +1,4 @@
-pub mod Storing
 pub mod Measures
+pub mod Numbers
 pub mod Plans
+pub mod Records

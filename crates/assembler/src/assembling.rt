@@ -1,9 +1,7 @@
 // A listing assembled into a buffer.
 ghost use Rattle.std.specs.Prelude.{◌≡◌, ◌/◌, ◌≤◌, ◌++◌, length, drop, is_ok, IfOk, if◌then◌else◌, OnOk};
 ghost use Rattle.text.specs.Layout.{start, laid};
-ghost use Rattle.listing.specs.declared.items.Section.TheVariants.{Data};
 ghost use Rattle.text.specs.Image as spec;
-ghost use Rattle.text.specs.Image.{section_bytes};
 ghost use Rattle.text.specs.Runs.{Longest};
 ghost use Rattle.text.specs.Answer.{assembled};
 ghost use Rattle.text.specs.Hazards.{NoHazard};
@@ -11,91 +9,59 @@ ghost use Rattle.text.specs.Immediates.{ImmediatesKept};
 ghost use Rattle.text.specs.Targets.{TargetsReached};
 ghost use Rattle.text.specs.Sizes.{SizesAgree};
 ghost use Rattle.assembler.specs.Plans.{plan_of, planned};
-ghost use Rattle.assembler.specs.Storing.{stored};
 
+use crate::addresses::Addresses;
 use crate::checking::check_values;
-use crate::laying::{first_layout, lay_out};
+use crate::labels::Labels;
+use crate::laying::lay_out;
+use crate::listings::Listing;
 use crate::measuring::pad;
 use crate::plans::Plan;
-use crate::writing::{write_section, write_zeros};
+use crate::writing::write_sections;
 use isa::Refusal;
-use listing::Section;
-use text::{Answers, Layout, Mark, Refused};
+use text::{Answers, Refused};
 
-// Makes every check, in order, and writes nothing. The layout has what each label names.
-fn plan_for(listing: &[u8], room: usize, layout: &mut Layout) -> Result<Plan, Refused>
-    requires { layout.old ≡ start }
-    ensures value { result ≡ planned listing.now room }
-    ensures plan { IfOk result (λ p. p ≡ plan_of listing.now) }
-    ensures labels { OnOk result (layout.new ≡ laid listing.now (length listing.now / 8)) }
-    ensures bound { IfOk result (λ p. (p.text ≤ 65280) × (p.image ≤ room) × (length listing.now / 8 ≤ 4096)) }
+// Makes every check of the records, in order, and writes nothing. The labels are then what each of them names.
+fn plan_for(listing: Listing, room: usize, labels: &mut Labels) -> Result<Plan, Refused>
+    requires { labels.old.marks ≡ start.labels }
+    ensures value { result ≡ planned listing.entry.bytes.now room }
+    ensures plan { IfOk result (λ p. p ≡ plan_of listing.entry.bytes.now) }
+    ensures labels { OnOk result (labels.new.marks ≡ (laid listing.entry.bytes.now (length listing.entry.bytes.now / 8)).labels) }
+    ensures bound { IfOk result (λ p. (p.text ≤ 65280) × (p.image ≤ room)) }
 {
-    let count = listing.len() / 8;
-    if listing.len() % 8 != 0 {
-        return Err(Refused {
-            refusal: Refusal::Ragged,
-            index: count,
-        });
-    }
-    if count > 4096 {
-        return Err(Refused {
-            refusal: Refusal::Long,
-            index: count,
-        });
-    }
-    lay_out(listing, count, layout)?;
-    let end = layout.place.text;
-    let text = end + pad(end, 16);
-    let image = text + layout.place.data;
+    let place = lay_out(listing, labels)?;
+    let text = place.text + pad(place.text, 16);
+    let image = text + place.data;
     if image > 65280 {
-        return Err(Refused {
-            refusal: Refusal::Big,
-            index: count,
-        });
+        return Err(listing.refused(Refusal::Big));
     }
-    check_values(listing, count, text, &layout.labels)?;
+    let addresses = Addresses { base: text, labels };
+    check_values(listing, addresses)?;
     if image > room {
-        return Err(Refused {
-            refusal: Refusal::Short,
-            index: count,
-        });
+        return Err(listing.refused(Refusal::Short));
     }
-    Ok(Plan { end, text, image })
+    Ok(Plan {
+        end: place.text,
+        text,
+        image,
+    })
 }
 
-// Writes the data of a listing that was planned, where there are any.
-fn write_data(listing: &[u8], plan: Plan, labels: &[Option<Mark>; 1024], image: &mut [u8])
-    requires plan { plan ≡ plan_of listing.now }
+// Writes the image of a listing that was planned, into a slice of just its length.
+fn write_image(listing: Listing, plan: Plan, labels: &Labels, image: &mut [u8])
+    requires plan { plan ≡ plan_of listing.bytes.now }
+    requires labels { labels.now.marks ≡ (laid listing.bytes.now (length listing.bytes.now / 8)).labels }
     requires text { plan.text ≤ 65280 }
-    requires few { length listing.now / 8 ≤ 4096 }
-    ensures { image.new
-        ≡ stored image.old plan.text (section_bytes Data plan.text labels.now listing.now (length listing.now / 8)) }
+    requires room { length image.old ≡ plan.image }
+    ensures { image.new ≡ spec.image listing.entry.bytes.now }
 {
-    if plan.image > plan.text {
-        write_section(
-            image,
-            plan.text,
-            Section::Data,
-            listing,
-            listing.len() / 8,
-            plan.text,
-            labels,
-        );
-    }
-}
-
-// Writes the image of a listing that was planned.
-fn write_image(listing: &[u8], plan: Plan, labels: &[Option<Mark>; 1024], image: &mut [u8])
-    requires plan { plan ≡ plan_of listing.now }
-    requires labels { labels.now ≡ (laid listing.now (length listing.now / 8)).labels }
-    requires text { plan.text ≤ 65280 }
-    requires few { length listing.now / 8 ≤ 4096 }
-    ensures { image.new ≡ stored image.old 0 (spec.image listing.now) }
-{
-    let count = listing.len() / 8;
-    write_section(image, 0, Section::Text, listing, count, plan.text, labels);
-    write_zeros(image, plan.end, plan.text - plan.end);
-    write_data(listing, plan, labels, image);
+    let addresses = Addresses {
+        base: plan.text,
+        labels,
+    };
+    let (text, data) = image.split_at_mut(plan.text);
+    write_sections(listing, addresses, text, data);
+    text[plan.end..].fill(0);
 }
 
 // Assembles a listing into a buffer. The image is written from the start of the buffer, and nothing past
@@ -110,14 +76,13 @@ pub fn assemble(listing: &[u8], image: &mut [u8]) -> Result<Answers, Refused>
     ensures run { IfOk result (λ a. Longest (spec.image listing.now) (a.text / 2) a.run) }
     ensures sizes { IfOk result (λ a. SizesAgree listing.now a) }
 {
-    let mut layout = first_layout();
-    let plan = plan_for(listing, image.len(), &mut layout)?;
-    write_image(listing, plan, &layout.labels, image);
-    let end = plan.text;
-    let run = text::longest_run(&image[0..end]);
+    let listing = Listing::new(listing)?;
+    let mut labels = Labels::new();
+    let plan = plan_for(listing, image.len(), &mut labels)?;
+    write_image(listing, plan, &labels, &mut image[..plan.image]);
     Ok(Answers {
         text: plan.text,
         image: plan.image,
-        run,
+        run: text::longest_run(&image[..plan.text]),
     })
 }

@@ -1,11 +1,17 @@
 // The assembler: from a listing of eight-byte records to an image.
 #![tactic(auto)]
 
+mod addresses;
 mod assembling;
 mod checking;
+mod labels;
 mod laying;
+mod listings;
 mod measuring;
 mod plans;
+mod standing;
+mod values;
+mod walks;
 mod writing;
 
 pub use assembling::assemble;

@@ -1,5 +1,5 @@
 use Rattle.std.proofs.Common.{◌≡◌, ℕ, ◌-◌, ◌/◌, ◌≤◌, cond, List, ◌++◌, length, take, drop, is_ok, None, Ok, Err, sym, ap, ◌∙◌, subst, arith, length-append, length-take-le}
-use Rattle.std.proofs.lemmas.Result.{err_from_is_err_and, IfOk-from_err}
+use Rattle.std.proofs.lemmas.Result.{err_from_is_err_and}
 use Rattle.text.specs.declared.outcomes.Answers.{Answers}
 use Rattle.text.specs.Image.{text_length, image}
 use Rattle.text.specs.Runs.{longest, Longest}
@@ -13,53 +13,46 @@ use Rattle.text.proofs.Text.{no_hazard}
 use Rattle.text.proofs.Stand.{immediates_kept}
 use Rattle.text.proofs.Targets.{targets_reached}
 use Rattle.text.proofs.Agree.{sizes_agree}
-use Rattle.assembler.specs.Plans.{plan_of}
+use Rattle.assembler.specs.Plans.{plan_of, planned}
 use Rattle.assembler.proofs.Steps.{answered, refused}
-use Rattle.assembler.proofs.Stores.{stored_front}
 use Rattle.assembler.proofs.assembling.assemble.Goals as goal
 
-pub returns-in_err-plan : goal.returns-in_err-plan
-returns-in_err-plan c =
+pub returns-in_err-plan-clause-value : goal.returns-in_err-plan-clause-value
+returns-in_err-plan-clause-value c =
     let l = c.args.listing.now in
     let room = length c.args.image.now in
     let e = c.in_err-plan.field-0.0 in
-    let p = err_from_is_err_and c.from_residual.result c.from_residual.ensures.1 in
+    let p = err_from_is_err_and c.from_residual-in_err-plan.result c.from_residual-in_err-plan.ensures.1 in
     let from = p.1 in
     let to = p.2 in
-    let same : c.from_residual.result ≡ Err e = cc in
-    record {
-      value = same ∙ sym (ap (λ o. or_refused o (answers l)) (refused (failure l room) (plan_of l) e c.in_err-plan.ensures.value));
-      image = sym (ap (λ r. cond (is_ok r) (image l ++ drop (length (image l)) c.args.image.now) c.args.image.now) same);
-      hazards = IfOk-from_err c.from_residual.result _ c.from_residual.ensures.0;
-      immediates = IfOk-from_err c.from_residual.result _ c.from_residual.ensures.0;
-      targets = IfOk-from_err c.from_residual.result _ c.from_residual.ensures.0;
-      run = IfOk-from_err c.from_residual.result _ c.from_residual.ensures.0;
-      sizes = IfOk-from_err c.from_residual.result _ c.from_residual.ensures.0;
-    }
+    let same : c.from_residual-in_err-plan.result ≡ Err e = cc in
+    let told = c.in_err-plan.ensures.value ∙ ap (λ b. planned b room) c.in_ok-listing.ensures.ok in
+    same ∙ sym (ap (λ o. or_refused o (answers l)) (refused (failure l room) (plan_of l) e told))
 
 pub returns : goal.returns
 returns c =
     let l = c.args.listing.now in
     let xs = c.args.image.now in
     let n : ℕ = length l / 8 in
+    let bytes = c.in_ok-listing.ensures.ok in
     let told = c.in_ok-plan.ensures in
     let p = c.in_ok-plan.plan in
-    let is : p ≡ plan_of l = told.plan in
-    let none : failure l (length xs) ≡ None = answered (failure l (length xs)) (plan_of l) p told.value in
+    let is : p ≡ plan_of l = told.plan ∙ ap plan_of bytes in
+    let none : failure l (length xs) ≡ None = answered (failure l (length xs)) (plan_of l) p (told.value ∙ ap (λ b. planned b (length xs)) bytes) in
     let ok = acceptance l (length xs) none in
     let long = image_long l in
-    let room : length (image l) ≤ length xs = omega (arith, ok.roomy) in
-    let after = c.write_image.ensures ∙ stored_front xs (image l) room in
     let rest : List ℕ = drop (length (image l)) xs in
     let whole : List ℕ = image l ++ rest in
+    let written : c.write_image.new.image ≡ image l = c.write_image.ensures ∙ ap image bytes in
+    let after : c.write_image.new.image ++ drop p.image xs ≡ whole =
+    λ j. written j ++ drop ((ap (λ q. q.image) is ∙ sym long) j) xs in
     let size : ℕ = text_length l n in
-    let cut : p.text - 0 ≡ size = omega (arith, ap (λ q. q.text) is) in
     let fits : size ≤ length (image l) = omega (arith, long) in
     let cut_long : length (take size whole) ≡ size = length-take-le size whole (omega (arith, length-append (image l) rest)) in
-    let run : c.longest_run-run.result ≡ longest (image l) (size / 2) =
-    c.longest_run-run.ensures.value ∙ (λ j. longest (take (cut j) (after j)) (length (take (cut j) (after j)) / 2))
+    let run : c.longest_run.result ≡ longest (image l) (size / 2) =
+    c.longest_run.ensures.value ∙ (λ j. longest (take (is j).text (after j)) (length (take (is j).text (after j)) / 2))
     ∙ ap (λ m. longest (take size whole) (m / 2)) cut_long ∙ longest_take (image l) rest size (size / 2) (omega arith) fits in
-    let given : Answers = record { text = p.text; image = p.image; run = c.longest_run-run.result } in
+    let given : Answers = record { text = p.text; image = p.image; run = c.longest_run.result } in
     let same : given ≡ answers l = λ j. record { text = (is j).text; image = (is j).image; run = run j } in
     record {
       value = ap Ok same ∙ sym (ap (λ o. or_refused o (answers l)) none);

@@ -1,47 +1,68 @@
-use Rattle.std.proofs.Common.{◌≡◌, ℕ, Some, None, Err, Option, sym, refl, ap, ◌∙◌, add-one, arith}
+use Rattle.std.proofs.Common.{◌≡◌, ℕ, ◌/◌, Some, None, Err, Option, length, sym, refl, ap, ◌∙◌, subst, add-one, arith}
+use Rattle.std.specs.Result.{result_err}
 use Rattle.std.proofs.lemmas.Result.{err_from_is_err_and}
 use Rattle.text.specs.declared.outcomes.Refused.{Refused}
 use Rattle.listing.specs.Reading.{record_at}
-use Rattle.text.specs.Layout.{laid, first_refused, after}
+use Rattle.text.specs.Layout.{laid, after, first_refused}
 use Rattle.text.specs.Values.{checked}
 use Rattle.text.proofs.Lengths.{place_more}
-use Rattle.text.specs.Answer.{or_refused}
-use Rattle.assembler.proofs.Steps.{refuses, passes, answered, refused}
+use Rattle.assembler.specs.Records.{record_in}
+use Rattle.assembler.proofs.Steps.{refuses, passes}
+use Rattle.assembler.proofs.Passes.{checks, unrefused}
 use Rattle.assembler.proofs.checking.check_values.Goals as goal
+use Rattle.assembler.proofs.checking.check_values.Goals.{in-Some+in_ok-indexed-in-Some, in-None}
 
-pub loop-index-init : goal.loop-index-init
+pub loop-bytes-init : goal.loop-bytes-init
 unfolding laid first_refused
-loop-index-init c =
-    let e = c.first_place-place.ensures in
-    (e, refl, omega (arith, ap (λ p. p.text) e), omega (arith, ap (λ p. p.«data») e))
+loop-bytes-init c = record { index = c.start-walk.ensures.index; place = c.start-walk.ensures.place; none = refl }
 
-pub returns-in_err-check_value : goal.returns-in_err-check_value
-returns-in_err-check_value c =
-    let l = c.args.listing.now in
-    let i = c.loop-index.index in
-    let f : ℕ → Option Refused = λ k. checked c.args.base c.args.labels.now (laid l k).place (record_at l k) k in
-    let e = c.in_err-check_value.field-0.0 in
+pub returns-in_err-indexed-in-Some : goal.returns-in_err-indexed-in-Some
+returns-in_err-indexed-in-Some c =
+    let l = c.args.listing.bytes.now in
+    let i = c.loop-bytes.bytes-index in
+    let inv = c.loop-bytes.invariant in
+    let base = c.args.addresses.base in
+    let labels = c.args.addresses.labels.now.marks in
+    let f : ℕ → Option Refused = λ k. checked base labels (laid l k).place (record_at l k) k in
+    let s = c.in-Some.standing in
+    let known = sym (c.records-bytes-items.ensures.records i (omega arith)) ∙ sym c.in-Some.ensures.«record» in
+    let place = ap (λ w. w.place) c.in-Some.ensures.walk ∙ inv.place in
+    let told = checks l i c.loop-bytes.walk.index s.walk.place labels s.«record» inv.index known base _ place c.check_value.ensures in
+    let e = c.in_err-indexed-in-Some.field-0.0 in
     let p = err_from_is_err_and c.from_residual.result c.from_residual.ensures.1 in
     let from = p.1 in
     let to = p.2 in
     let same : c.from_residual.result ≡ Err e = cc in
-    let is : checked c.args.base c.args.labels.now c.loop-index.place c.record_at-found.result i ≡ f i =
-    λ j. checked c.args.base c.args.labels.now (c.loop-index.invariant.0 j) (c.record_at-found.ensures j) i in
-    let here : f i ≡ Some e = sym is ∙ refused _ tt e c.in_err-check_value.ensures in
-    same ∙ sym (ap (λ o. or_refused o tt) (refuses f e i c.args.count c.loop-index.invariant.1 here (omega arith)))
+    let here : f i ≡ Some e = told ∙ sym c.in_err-indexed-in-Some.ensures in
+    ap result_err same ∙ sym (refuses f e i (length l / 8) inv.none here (omega arith))
 
-pub loop-index-preserved : goal.loop-index-preserved
-loop-index-preserved c =
-    let l = c.args.listing.now in
-    let i = c.loop-index.index in
-    let f : ℕ → Option Refused = λ k. checked c.args.base c.args.labels.now (laid l k).place (record_at l k) k in
-    let inv = c.loop-index.invariant in
-    let same : checked c.args.base c.args.labels.now c.loop-index.place c.record_at-found.result i ≡ f i =
-    λ j. checked c.args.base c.args.labels.now (inv.0 j) (c.record_at-found.ensures j) i in
-    let here : f i ≡ None = sym same ∙ answered _ tt tt c.in_ok-check_value.ensures in
-    rw add-one (
-      c.advance-place.ensures.value ∙ (λ j. after (inv.0 j) (c.record_at-found.ensures j)) ∙ sym (place_more l i),
-      passes f i inv.1 here,
-      omega arith,
-      omega arith,
-    )
+pub loop-bytes-preserved : goal.loop-bytes-preserved
+loop-bytes-preserved c =
+    let l = c.args.listing.bytes.now in
+    let i = c.loop-bytes.bytes-index in
+    let inv = c.loop-bytes.invariant in
+    let base = c.args.addresses.base in
+    let labels = c.args.addresses.labels.now.marks in
+    let f : ℕ → Option Refused = λ k. checked base labels (laid l k).place (record_at l k) k in
+    let reads = sym (c.records-bytes-items.ensures.records i (omega arith)) in
+    elim c.match-read.branch [
+      | in-Some+in_ok-indexed-in-Some w ↦
+          let s = w.in-Some.standing in
+          let known = reads ∙ sym w.in-Some.ensures.«record» in
+          let place = ap (λ w. w.place) w.in-Some.ensures.walk ∙ inv.place in
+          let told = checks l i c.loop-bytes.walk.index s.walk.place labels s.«record» inv.index known base _ place w.check_value.ensures in
+          let none : f i ≡ None = told ∙ sym w.in_ok-indexed-in-Some.ensures in
+          record {
+            index = omega (arith, ap (λ w. w.index) w.walk-is, w.next-walk.ensures.index, ap (λ w. w.index) w.in-Some.ensures.walk);
+            place = rw add-one (ap (λ w. w.place) w.walk-is ∙ w.next-walk.ensures.place ∙ (λ j. after (place j) (sym known j)) ∙ sym (place_more l i));
+            none = rw add-one (passes f i inv.none none);
+          }
+      | in-None w ↦
+          let known : record_at l i ≡ None = reads ∙ sym w.in-None.ensures.«record» in
+          let none : f i ≡ None = ap (λ o. checked base labels (laid l i).place o i) known in
+          record {
+            index = omega (arith, ap (λ w. w.index) w.walk-is, w.skip-walk.ensures.index);
+            place = rw add-one (ap (λ w. w.place) w.walk-is ∙ w.skip-walk.ensures.place ∙ inv.place ∙ ap (after (laid l i).place) (sym known) ∙ sym (place_more l i));
+            none = rw add-one (passes f i inv.none none);
+          }
+    ]

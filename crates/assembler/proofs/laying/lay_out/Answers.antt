@@ -1,49 +1,86 @@
-use Rattle.std.proofs.Common.{◌≡◌, ℕ, Some, None, Err, Option, sym, refl, ap, ◌∙◌, add-one, arith}
+use Rattle.std.proofs.Common.{◌≡◌, ℕ, ◌/◌, Some, None, Err, Option, length, sym, refl, ap, ◌∙◌, subst, add-one, arith}
+use Rattle.std.specs.Option.{ok_or, IfSome}
+use Rattle.std.specs.Result.{result_err, result_ok}
 use Rattle.std.proofs.lemmas.Result.{err_from_is_err_and, IfOk-from_err}
+use Rattle.isa.specs.declared.refusals.Refusal.TheVariants as refusal
 use Rattle.text.specs.declared.outcomes.Refused.{Refused}
 use Rattle.listing.specs.Reading.{record_at}
-use Rattle.text.specs.Layout.{laid, laid_more, layout_refusal, first_refused}
-use Rattle.text.specs.Answer.{or_refused}
-use Rattle.assembler.proofs.Steps.{refuses, passes, answered, refused}
+use Rattle.text.specs.Layout.{laid, laid_more, marked_by, layout_refusal, first_refused, start}
+use Rattle.assembler.specs.Records.{record_in}
+use Rattle.assembler.proofs.Steps.{refuses, passes}
+use Rattle.assembler.proofs.Passes.{lays, unrefused}
 use Rattle.assembler.proofs.laying.lay_out.Goals as goal
 
-pub loop-index-init : goal.loop-index-init
+pub loop-bytes-init : goal.loop-bytes-init
 unfolding laid first_refused
-loop-index-init c =
-    let e = c.requires.start in
-    (e, refl, omega (arith, ap (λ s. s.place.text) e), omega (arith, ap (λ s. s.place.«data») e))
+loop-bytes-init c = record {
+  index = c.start-walk.ensures.index;
+  layout = λ j. record { place = c.start-walk.ensures.place j; labels = c.requires j };
+  none = refl;
+}
 
-pub returns-in_err-lay_next : goal.returns-in_err-lay_next
-returns-in_err-lay_next c =
-    let l = c.args.listing.now in
-    let i = c.loop-index.index in
+pub returns-in_err-standing-clause-err : goal.returns-in_err-standing-clause-err
+returns-in_err-standing-clause-err c =
+    let l = c.args.listing.bytes.now in
+    let i = c.loop-bytes.bytes-index in
+    let inv = c.loop-bytes.invariant in
     let f : ℕ → Option Refused = λ k. layout_refusal (laid l k) (record_at l k) k in
-    let e = c.in_err-lay_next.field-0.0 in
+    let e = c.in_err-standing.field-0.0 in
     let p = err_from_is_err_and c.from_residual.result c.from_residual.ensures.1 in
     let from = p.1 in
     let to = p.2 in
     let same : c.from_residual.result ≡ Err e = cc in
-    let here : f i ≡ Some e = ap (λ s. layout_refusal s (record_at l i) i) (sym c.loop-index.invariant.0) ∙ refused _ tt e c.in_err-lay_next.ensures.value in
-    record {
-      value = same ∙ sym (ap (λ o. or_refused o tt) (refuses f e i c.args.count c.loop-index.invariant.1 here (omega arith)));
-      after = IfOk-from_err c.from_residual.result _ c.from_residual.ensures.0;
-      text = IfOk-from_err c.from_residual.result _ c.from_residual.ensures.0;
-      stored = IfOk-from_err c.from_residual.result _ c.from_residual.ensures.0;
-    }
+    let none : c.read.result ≡ None = c.in_err-standing.ensures.ok_part in
+    let known : record_at l i ≡ None =
+    sym (c.records-bytes-items.ensures.records i (omega arith)) ∙ sym c.read.ensures.record ∙ ap record_in none in
+    let told : Err e ≡ Err c.refused.result = c.in_err-standing.ensures.value ∙ ap (λ o. ok_or o c.refused.result) none in
+    let here : f i ≡ Some e =
+    ap (λ o. layout_refusal (laid l i) o i) known
+    ∙ (λ j. Some (record { refusal = refusal.Operation; index = sym inv.index j })) ∙ ap Some (sym c.refused.ensures) ∙ cc in
+    ap result_err same ∙ sym (refuses f e i (length l / 8) inv.none here (omega arith))
 
-pub loop-index-preserved : goal.loop-index-preserved
-unfolding laid
-loop-index-preserved c =
-    let l = c.args.listing.now in
-    let i = c.loop-index.index in
+pub returns-in_err-indexed-clause-err : goal.returns-in_err-indexed-clause-err
+returns-in_err-indexed-clause-err c =
+    let l = c.args.listing.bytes.now in
+    let i = c.loop-bytes.bytes-index in
+    let inv = c.loop-bytes.invariant in
     let f : ℕ → Option Refused = λ k. layout_refusal (laid l k) (record_at l k) k in
-    let inv = c.loop-index.invariant in
-    let told = c.lay_next.ensures in
-    let is = c.in_ok-lay_next.was in
-    let here : f i ≡ None = ap (λ s. layout_refusal s (record_at l i) i) (sym inv.0) ∙ answered _ tt tt c.in_ok-lay_next.ensures.value in
-    rw add-one (
-      told.after is ∙ ap (λ s. laid_more s (record_at l i)) inv.0,
-      passes f i inv.1 here,
-      omega arith,
-      omega arith,
-    )
+    let s = c.in_ok-standing.standing in
+    let got : c.read.result ≡ Some s = c.in_ok-standing.ensures.ok_part in
+    let known : record_at l i ≡ Some s.«record» =
+    sym (c.records-bytes-items.ensures.records i (omega arith)) ∙ sym c.read.ensures.record ∙ ap record_in got in
+    let at : s.walk ≡ c.loop-bytes.walk = subst (λ o. IfSome o (λ s. s.walk ≡ c.loop-bytes.walk)) got c.read.ensures.walk in
+    let layout : record { place = s.walk.place; labels = c.loop-bytes.labels.marks } ≡ laid l i =
+    (λ j. record { place = (at j).place; labels = c.loop-bytes.labels.marks }) ∙ inv.layout in
+    let told = lays l i c.loop-bytes.walk.index s.walk.place c.loop-bytes.labels.marks s.«record» inv.index known _ layout c.lay.ensures.value in
+    let e = c.in_err-indexed.field-0.0 in
+    let p = err_from_is_err_and c.from_residual-in_err-indexed.result c.from_residual-in_err-indexed.ensures.1 in
+    let from = p.1 in
+    let to = p.2 in
+    let same : c.from_residual-in_err-indexed.result ≡ Err e = cc in
+    let here : f i ≡ Some e = told ∙ sym c.in_err-indexed.ensures in
+    ap result_err same ∙ sym (refuses f e i (length l / 8) inv.none here (omega arith))
+
+pub loop-bytes-preserved : goal.loop-bytes-preserved
+unfolding laid
+loop-bytes-preserved c =
+    let l = c.args.listing.bytes.now in
+    let i = c.loop-bytes.bytes-index in
+    let inv = c.loop-bytes.invariant in
+    let f : ℕ → Option Refused = λ k. layout_refusal (laid l k) (record_at l k) k in
+    let s = c.in_ok-standing.standing in
+    let got : c.read.result ≡ Some s = c.in_ok-standing.ensures.ok_part in
+    let known : record_at l i ≡ Some s.«record» =
+    sym (c.records-bytes-items.ensures.records i (omega arith)) ∙ sym c.read.ensures.record ∙ ap record_in got in
+    let at : s.walk ≡ c.loop-bytes.walk = subst (λ o. IfSome o (λ s. s.walk ≡ c.loop-bytes.walk)) got c.read.ensures.walk in
+    let layout : record { place = s.walk.place; labels = c.loop-bytes.labels.marks } ≡ laid l i =
+    (λ j. record { place = (at j).place; labels = c.loop-bytes.labels.marks }) ∙ inv.layout in
+    let told = lays l i c.loop-bytes.walk.index s.walk.place c.loop-bytes.labels.marks s.«record» inv.index known _ layout c.lay.ensures.value in
+    let none : f i ≡ None = told ∙ sym c.in_ok-indexed.ensures in
+    let marks = c.lay.ensures.after (unrefused c.loop-bytes.walk.index _ (sym c.in_ok-indexed.ensures))
+    ∙ ap (λ m. marked_by m s.walk.place c.loop-bytes.labels.marks s.«record») s.means in
+    record {
+      index = omega (arith, c.next-walk.ensures.index, ap (λ w. w.index) at);
+      layout = rw add-one ((λ j. record { place = c.next-walk.ensures.place j; labels = marks j }) ∙ (λ j. laid_more (layout j) (sym known j)));
+      none = rw add-one (passes f i inv.none none);
+    }

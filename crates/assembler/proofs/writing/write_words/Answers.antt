@@ -1,28 +1,49 @@
-use Rattle.std.proofs.Common.{◌≡◌, ◌+◌, ◌*◌, ◌/◌, ◌%◌, get_or, set, refl, ap, ◌∙◌, add-one, w64, to_z, of_z}
+use Rattle.std.proofs.Common.{◌≡◌, ℕ, suc, ◌+◌, ◌*◌, ◌/◌, ◌%◌, ◌≤◌, List, [], ◌∷◌, ◌++◌, take, get_or, length, set, refl, ap, sym, ◌∙◌, add-one, append_assoc, arith, length-set}
+use Rattle.std.proofs.lemmas.List.{take_all, take_more_set}
+use Rattle.std.proofs.lemmas.Grind.{take-set_at}
 use Rattle.listing.specs.Slots.{slots, template, mended, nop}
-use Rattle.text.specs.Image.{words, filled, word_of}
-use Rattle.assembler.specs.Storing.{stored}
-use Rattle.assembler.proofs.Stores.{word_more}
+use Rattle.text.specs.Layout.{size_of}
+use Rattle.text.specs.Image.{words, word_bytes, word_of, filled}
+use Rattle.assembler.specs.Measures.{mend_at}
 use Rattle.assembler.proofs.writing.write_words.Goals as goal
 
+-- two bytes more
+two_more : (xs : List ℕ) (n m a b : ℕ) → m ≡ n + 2 → n + 2 ≤ length xs → take m (set (set xs n a) (n + 1) b) ≡ take n xs ++ (a ∷ b ∷ [])
+two_more xs n m a b e h =
+    take-set_at (set xs n a) (n + 1) m b (omega arith) (omega (arith, length-set xs n a))
+    ∙ ap (λ ys. ys ++ b ∷ []) (take_more_set xs n a (omega arith))
+    ∙ append_assoc (take n xs) (a ∷ []) (b ∷ [])
+
 pub loop-k-init : goal.loop-k-init
-unfolding stored words
+unfolding words
 loop-k-init c = refl
 
 pub loop-k-preserved : goal.loop-k-preserved
+unfolding words
 loop-k-preserved c =
-    let xs = c.args.out.now in
-    let at = c.args.at in
+    let s = c.args.standing.now in
     let k = c.loop-k.k in
-    let text = c.args.place.text in
-    let ss = slots c.args.place.result c.args.body c.args.r in
-    let w = c.word_of-word.result in
-    let u = to_z w64 (of_z w64 c.args.number) in
-    let slot : c.slot.result ≡ get_or ss k nop =
-    c.slot.ensures ∙ ap (λ m. get_or (mended m (template c.args.body c.args.r)) k nop) c.requires.mend in
-    let is : w ≡ word_of (filled u (text + 2 * k) (get_or ss k nop)) =
-    c.word_of-word.ensures ∙ ap word_of (c.fill.ensures ∙ ap (filled u (text + 2 * k)) slot) in
+    let xs = c.loop-k.out in
+    let v = c.args.number.number in
+    let at = s.walk.place.text in
+    let ss = slots s.walk.place.result c.args.body s.«record» in
+    let w = c.word_of.result in
+    let mend = ap (λ m. m.mend) s.adds ∙ ap (λ m. mend_at m s.walk.place s.«record») c.requires.words in
+    let slot : c.slot-slot.result ≡ get_or ss k nop =
+    c.slot-slot.ensures ∙ ap (λ m. get_or (mended m (template c.args.body s.«record»)) k nop) mend in
+    let is : w ≡ word_of (filled v (at + 2 * k) (get_or ss k nop)) =
+    c.word_of.ensures ∙ ap word_of (c.fill.ensures ∙ ap (filled v (at + 2 * k)) slot) in
     rw add-one (
-    c.put-in-loop-k.ensures
-    ∙ ap (λ ys. set ys (at + 2 * k + 1) (w % 256)) (c.put.ensures ∙ ap (λ ys. set ys (at + 2 * k) (w / 256 % 256)) c.loop-k.invariant)
-    ∙ word_more xs at u text ss k w is)
+    ap (λ bytes. take (2 * suc k) (set (set xs (2 * k) (get_or bytes 0 0)) (2 * k + 1) (get_or bytes 1 0))) c.to_be_bytes.ensures
+    ∙ two_more xs (2 * k) (2 * suc k) (w / 256 % 256) (w % 256) (omega arith) (omega arith)
+    ∙ (λ j. c.loop-k.invariant j ++ word_bytes (is j)))
+
+pub returns : goal.returns
+returns c =
+    let s = c.args.standing.now in
+    let k = c.loop-k.k in
+    let ss = slots s.walk.place.result c.args.body s.«record» in
+    let size : length c.args.out.now ≡ 2 * length ss =
+    c.requires.room ∙ ap (λ m. m.size) s.adds ∙ ap (λ m. size_of m s.walk.place s.«record») c.requires.words in
+    let whole : k ≡ length ss = omega arith in
+    sym (take_all (2 * k) c.loop-k.out (omega arith)) ∙ c.loop-k.invariant ∙ ap (words c.args.number.number s.walk.place.text ss) whole

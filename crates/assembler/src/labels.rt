@@ -1,0 +1,36 @@
+// What the labels of a listing name.
+ghost use Rattle.std.specs.Prelude.{◌≡◌, Some, None, slice_index_or, slice_set};
+ghost use Rattle.text.specs.Layout.{start};
+
+use text::Mark;
+
+#[derive(Drop)]
+pub(crate) struct Labels {
+    pub marks: [Option<Mark>; 1024],
+}
+
+impl Labels {
+    // No label is defined.
+    pub fn new() -> Labels
+        ensures { result.marks ≡ start.labels }
+    {
+        Labels {
+            marks: [None; 1024],
+        }
+    }
+
+    // What a label names, where it is defined.
+    pub fn get(&self, label: u16) -> Option<Mark>
+        ensures { result ≡ slice_index_or self.now.marks label None }
+    {
+        self.marks.get(label as usize).copied().flatten()
+    }
+
+    pub fn define(&mut self, label: u16, mark: Mark)
+        ensures { self.new.marks ≡ slice_set self.old.marks label (Some mark) }
+    {
+        if (label as usize) < self.marks.len() {
+            self.marks[label as usize] = Some(mark);
+        }
+    }
+}

@@ -1,0 +1,93 @@
+// Records where they stand.
+ghost use Rattle.std.specs.Prelude.{◌≡◌, ◌≤◌};
+ghost use Rattle.listing.specs.Meaning.{meaning};
+ghost use Rattle.assembler.specs.Measures.{measured};
+
+use crate::measuring::measure;
+use crate::plans::Measure;
+use crate::walks::Walk;
+use listing::{Item, Record, Section};
+use text::Place;
+
+// A record, what it means, and what it adds where it stands.
+#[derive(Clone, Copy)]
+pub(crate) struct Standing {
+    pub walk: Walk,
+    pub record: Record,
+    pub item: Item,
+    pub measure: Measure,
+    ghost means: { item ≡ meaning «record» },
+    ghost adds: { measure ≡ measured item walk.place «record» },
+    ghost within: { measure.size ≤ 262144 },
+}
+
+impl Standing {
+    ghost use Rattle.std.specs.Prelude.{◌≡◌, ◌+◌, ◌<◌, IfSome};
+    ghost use Rattle.listing.specs.Reading.{read_record};
+    ghost use Rattle.text.specs.Layout.{moved, section_after};
+    ghost use Rattle.assembler.specs.Records.{record_in};
+
+    // The next record; nothing where its operation is not listed.
+    pub fn read(walk: Walk, bytes: &[u8; 8]) -> Option<Standing>
+        ensures record { record_in result ≡ read_record bytes.now }
+        ensures walk { IfSome result (λ s. s.walk ≡ walk) }
+    {
+        let record = Record::read(*bytes)?;
+        let item = record.meaning();
+        Some(Standing {
+            walk,
+            record,
+            item,
+            measure: measure(walk, item, record),
+        })
+    }
+
+    // The section that the next record stands in.
+    fn section_after(&self) -> Section
+        ensures { result ≡ section_after self.now.item self.now.walk.place.section }
+    {
+        match self.item {
+            Item::Section(next) => next,
+            _ => self.walk.place.section,
+        }
+    }
+
+    fn place_after(&self) -> Place
+        ensures value { result ≡ moved self.now.walk.place self.now.record }
+        ensures text { result.text ≤ self.now.walk.place.text + 262144 }
+        ensures stored { result.«data» ≤ self.now.walk.place.«data» + 262144 }
+    {
+        let place = self.walk.place;
+        let section = self.section_after();
+        let size = self.measure.size;
+        match place.section {
+            Section::Text => Place {
+                section,
+                text: place.text + size,
+                data: place.data,
+                result: if size == 0 {
+                    place.result
+                } else {
+                    self.measure.result
+                },
+            },
+            Section::Data => Place {
+                section,
+                data: place.data + size,
+                ..place
+            },
+        }
+    }
+
+    // Past the record.
+    pub fn next(&self) -> Walk
+        requires { self.now.walk.index < 4096 }
+        ensures index { result.index ≡ self.now.walk.index + 1 }
+        ensures place { result.place ≡ moved self.now.walk.place self.now.record }
+    {
+        Walk {
+            index: self.walk.index + 1,
+            place: self.place_after(),
+        }
+    }
+}
