@@ -7,7 +7,7 @@ use Rattle.listing.specs.declared.records.Record.{Record}
 use Rattle.listing.specs.Slots.{body_mend}
 use Rattle.text.specs.declared.places.Place.{Place}
 use Rattle.text.specs.Layout.{size_of, result_of, parted_at}
-use Rattle.assembler.specs.declared.plans.Measure.{Measure}
+use Rattle.assembler.specs.declared.measuring.Measure.{Measure}
 
 -- how its first word is mended; only words are
 abbrev pub mend_at : Item → Place → Record → Mend

@@ -4,7 +4,7 @@ use Rattle.text.specs.declared.outcomes.Refused.{Refused}
 use Rattle.text.specs.Layout.{laid}
 use Rattle.text.specs.Image.{text_length, image_length}
 use Rattle.text.specs.Answer.{or_refused, failure}
-use Rattle.assembler.specs.declared.plans.Plan.{Plan}
+use Rattle.assembler.specs.declared.planning.Plan.{Plan}
 
 -- where the text ends before it is padded, where it ends then, and where the data end
 abbrev pub plan_of : List ℕ → Plan

@@ -28,6 +28,8 @@ impl<'a> Addresses<'a> {
 }
 
 impl<'a> Addresses<'a> {
+    ghost use Rattle.std.specs.Prelude.{pos};
+    ghost use Rattle.std.specs.Option.{unwrap_or};
     ghost use Rattle.assembler.specs.Numbers.{number_in};
 
     // A record's value; nothing where its label is not defined.
@@ -42,5 +44,12 @@ impl<'a> Addresses<'a> {
         Some(Value {
             number: constant + self.address_of(mark) as i64,
         })
+    }
+
+    // The value of a record whose label was looked up before.
+    pub fn found_value(self, record: Record) -> Value
+        ensures { result.number ≡ unwrap_or (value self.entry.base self.entry.labels.now.marks «record») (pos 0) }
+    {
+        self.value_of(record).unwrap_or(Value { number: 0 })
     }
 }

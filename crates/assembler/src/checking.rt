@@ -1,10 +1,8 @@
 // The second pass: the value of each record.
-ghost use Rattle.std.specs.Prelude.{◌≡◌, ◌/◌, ◌^◌, ◌<◌, false, length, pos, negsuc, ◌≤ℤ◌};
+ghost use Rattle.std.specs.Prelude.{◌≡◌, ◌/◌, length};
 ghost use Rattle.std.specs.Result.{result_err};
 ghost use Rattle.text.specs.Image.{value};
-ghost use Rattle.text.specs.Values as spec;
-ghost use Rattle.text.specs.Values.{outside, near, first_reaches, reaches, value_refusal, value_refused};
-ghost use Rattle.text.specs.Answer.{or_refused};
+ghost use Rattle.text.specs.Values.{is_target, outside, near, first_reaches, reaches, value_refusal, value_refused};
 
 use crate::addresses::Addresses;
 use crate::listings::Listing;
@@ -15,35 +13,14 @@ use isa::Refusal;
 use listing::{Body, First, Item};
 use text::Refused;
 
-fn is_target(item: Item) -> bool
-    ensures { result ≡ spec.is_target item }
-{
-    matches!(
-        item,
-        Item::Words(Body {
-            first: First::Branch(_) | First::Call,
-            ..
-        })
-    )
-}
-
-fn is_outside(item: Item, value: Value) -> bool
-    ensures { result ≡ outside item value.number }
-{
-    let low = if is_target(item) { 0 } else { -32768 };
-    value.number < low || value.number > 65535
-}
-
-fn is_near(at: usize, value: Value) -> bool
-    requires { at < 2 ^ 33 }
+fn is_near(at: u32, value: Value) -> bool
     ensures { result ≡ near at value.number }
 {
     let distance = value.distance_from(at);
     value.bits() % 2 == 0 && distance >= -256 && distance <= 254
 }
 
-fn is_reached_by(first: First, at: usize, value: Value) -> bool
-    requires { at < 2 ^ 33 }
+fn is_reached_by(first: First, at: u32, value: Value) -> bool
     ensures { result ≡ first_reaches first at value.number }
 {
     match first {
@@ -53,40 +30,61 @@ fn is_reached_by(first: First, at: usize, value: Value) -> bool
     }
 }
 
-fn is_reached(item: Item, at: usize, value: Value) -> bool
-    requires { at < 2 ^ 33 }
-    ensures { result ≡ reaches item at value.number }
-{
-    match item {
-        Item::Words(body) => is_reached_by(body.first, at, value),
-        _ => true,
+impl Standing {
+    fn is_target(&self) -> bool
+        ensures { result ≡ is_target self.now.item }
+    {
+        matches!(
+            self.item,
+            Item::Words(Body {
+                first: First::Branch(_) | First::Call,
+                ..
+            })
+        )
     }
-}
 
-// Whether a record can be written with its value where it stands.
-fn check_value(standing: &Standing, addresses: Addresses) -> Result<(), Refusal>
-    ensures { result_err result ≡ value_refusal standing.now.walk.place standing.now.record
-        (value addresses.entry.base addresses.entry.labels.now.marks standing.now.record) }
-{
-    let value = addresses.value_of(standing.record).ok_or(Refusal::Missing)?;
-    if is_outside(standing.item, value) {
-        return Err(Refusal::Value);
+    fn is_outside(&self, value: Value) -> bool
+        ensures { result ≡ outside self.now.item value.number }
+    {
+        let low = if self.is_target() { 0 } else { -32768 };
+        value.number < low || value.number > 65535
     }
-    if !is_reached(standing.item, standing.walk.place.text, value) {
-        return Err(Refusal::Reach);
+
+    fn is_reached(&self, value: Value) -> bool
+        ensures { result ≡ reaches self.now.item self.now.walk.place.text value.number }
+    {
+        match self.item {
+            Item::Words(body) => is_reached_by(body.first, self.walk.place.text as u32, value),
+            _ => true,
+        }
     }
-    Ok(())
+
+    // Refuses a record that cannot be written with its value.
+    fn check_value(&self, addresses: Addresses) -> Result<(), Refusal>
+        ensures { result_err result ≡ value_refusal self.now.walk.place self.now.record
+            (value addresses.entry.base addresses.entry.labels.now.marks self.now.record) }
+    {
+        let value = addresses.value_of(self.record).ok_or(Refusal::Missing)?;
+        if self.is_outside(value) {
+            return Err(Refusal::Value);
+        }
+        if !self.is_reached(value) {
+            return Err(Refusal::Reach);
+        }
+        Ok(())
+    }
 }
 
 // Checks the values of all records.
 pub(crate) fn check_values(listing: Listing, addresses: Addresses) -> Result<(), Refused>
-    ensures { result_err result ≡ value_refused listing.entry.bytes.now (length listing.entry.bytes.now / 8) addresses.entry.base addresses.entry.labels.now.marks }
+    ensures { result_err result ≡ value_refused listing.entry.bytes.now (length listing.entry.bytes.now / 8)
+        addresses.entry.base addresses.entry.labels.now.marks }
 {
     let mut walk = Walk::start();
     for bytes in listing.records() {
         match Standing::read(walk, bytes) {
             Some(standing) => {
-                walk.indexed(check_value(&standing, addresses))?;
+                walk.indexed(standing.check_value(addresses))?;
                 walk = standing.next();
             }
             None => walk = walk.skip(),

@@ -4,11 +4,12 @@
 mod addresses;
 mod assembling;
 mod checking;
+mod filling;
 mod labels;
 mod laying;
 mod listings;
 mod measuring;
-mod plans;
+mod planning;
 mod standing;
 mod values;
 mod walks;

@@ -22,19 +22,14 @@ impl<'a> Listing<'a> {
         ensures err { IfErr result (λ e. (room : ℕ) → failure bytes.now room ≡ Some e) }
     {
         let index = bytes.len() / 8;
-        if bytes.len() % 8 != 0 {
-            return Err(Refused {
-                refusal: Refusal::Ragged,
-                index,
-            });
-        }
-        if index > 4096 {
-            return Err(Refused {
-                refusal: Refusal::Long,
-                index,
-            });
-        }
-        Ok(Listing { bytes })
+        let refusal = if bytes.len() % 8 != 0 {
+            Refusal::Ragged
+        } else if index > 4096 {
+            Refusal::Long
+        } else {
+            return Ok(Listing { bytes });
+        };
+        Err(Refused { refusal, index })
     }
 
     pub fn records(self) -> &'a [[u8; 8]]

@@ -5,10 +5,19 @@ ghost use Rattle.listing.specs.Numbers.{bits16};
 ghost use Rattle.text.specs.Layout.{here, padding};
 ghost use Rattle.assembler.specs.Measures.{measured};
 
-use crate::plans::Measure;
 use crate::values::low_bits;
 use crate::walks::Walk;
 use listing::{Item, Mend, Record, Template};
+
+// How a record's first word is mended, how many bytes the record adds to its section, the register that
+// its last word writes, and whether it is adc or sbc in hazard.
+#[derive(Clone, Copy)]
+pub(crate) struct Measure {
+    pub mend: Mend,
+    pub size: usize,
+    pub result: u8,
+    pub parted: bool,
+}
 
 // How many bytes bring a length to a multiple of an alignment.
 pub(crate) fn pad(length: usize, alignment: usize) -> usize
@@ -22,42 +31,45 @@ pub(crate) fn pad(length: usize, alignment: usize) -> usize
     }
 }
 
-fn gap(walk: Walk, record: Record) -> usize
-    ensures value { result ≡ padding (here walk.place) (bits16 «record».constant) }
+fn gap(walk: Walk, r: Record) -> usize
+    ensures value { result ≡ padding (here walk.place) (bits16 r.constant) }
     ensures bound { result ≤ 65536 }
 {
-    pad(walk.end(), low_bits(record.constant as i64) as usize)
+    pad(walk.end(), low_bits(r.constant as i64) as usize)
 }
 
-// Bytes that are no words of a record.
-fn unmended(size: usize) -> Measure
-    ensures { result ≡ record { mend = Keep; size = size; result = 0; parted = false } }
-{
-    Measure {
-        mend: Mend::Keep,
-        size,
-        result: 0,
-        parted: false,
-    }
-}
-
-pub(crate) fn measure(walk: Walk, item: Item, record: Record) -> Measure
-    ensures value { result ≡ measured item walk.place «record» }
-    ensures bound { result.size ≤ 262144 }
-{
-    match item {
-        Item::Words(body) => {
-            let outline = Template { body, record }.outline(walk.place.result);
-            Measure {
-                mend: outline.mend,
-                size: 2 * outline.words,
-                result: outline.result,
-                parted: outline.parted,
-            }
+impl Measure {
+    // Bytes that are no words of a record.
+    fn unmended(size: usize) -> Measure
+        ensures { result ≡ record { mend = Keep; size = size; result = 0; parted = false } }
+    {
+        Measure {
+            mend: Mend::Keep,
+            size,
+            result: 0,
+            parted: false,
         }
-        Item::Byte => unmended(1),
-        Item::Word => unmended(2),
-        Item::Align => unmended(gap(walk, record)),
-        Item::Label | Item::Section(_) => unmended(0),
+    }
+
+    // What a record adds where a walk has come to.
+    pub fn of(walk: Walk, item: Item, r: Record) -> Measure
+        ensures value { result ≡ measured item walk.place r }
+        ensures bound { result.size ≤ 262144 }
+    {
+        match item {
+            Item::Words(body) => {
+                let outline = Template { body, record: r }.outline(walk.place.result);
+                Measure {
+                    mend: outline.mend,
+                    size: 2 * outline.words,
+                    result: outline.result,
+                    parted: outline.parted,
+                }
+            }
+            Item::Byte => Measure::unmended(1),
+            Item::Word => Measure::unmended(2),
+            Item::Align => Measure::unmended(gap(walk, r)),
+            Item::Label | Item::Section(_) => Measure::unmended(0),
+        }
     }
 }

@@ -3,8 +3,7 @@ ghost use Rattle.std.specs.Prelude.{◌≡◌, ◌≤◌};
 ghost use Rattle.listing.specs.Meaning.{meaning};
 ghost use Rattle.assembler.specs.Measures.{measured};
 
-use crate::measuring::measure;
-use crate::plans::Measure;
+use crate::measuring::Measure;
 use crate::walks::Walk;
 use listing::{Item, Record, Section};
 use text::Place;
@@ -38,7 +37,7 @@ impl Standing {
             walk,
             record,
             item,
-            measure: measure(walk, item, record),
+            measure: Measure::of(walk, item, record),
         })
     }
 

@@ -1,5 +1,5 @@
 // The value of a record.
-ghost use Rattle.std.specs.Prelude.{◌≡◌, ◌^◌, ◌<◌, pos, negsuc, ◌≤ℤ◌};
+ghost use Rattle.std.specs.Prelude.{◌≡◌, pos, negsuc, ◌≤ℤ◌};
 ghost use Rattle.listing.specs.Numbers.{bits16};
 ghost use Rattle.listing.specs.Slots.{number_of};
 ghost use Rattle.text.specs.Image.{distance};
@@ -13,12 +13,6 @@ pub(crate) struct Value {
 }
 
 impl Value {
-    pub fn zero() -> Value
-        ensures { result.number ≡ pos 0 }
-    {
-        Value { number: 0 }
-    }
-
     // The value modulo 65,536.
     pub fn bits(self) -> u16
         ensures { result ≡ bits16 self.number }
@@ -40,8 +34,7 @@ impl Value {
     }
 
     // How far the value, as a target, is from the second word after an address.
-    pub fn distance_from(self, at: usize) -> i64
-        requires { at < 2 ^ 33 }
+    pub fn distance_from(self, at: u32) -> i64
         ensures { result ≡ distance at self.number }
     {
         self.number - (at as i64 + 4)

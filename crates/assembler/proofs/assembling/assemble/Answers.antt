@@ -43,8 +43,8 @@ returns c =
     let long = image_long l in
     let rest : List ℕ = drop (length (image l)) xs in
     let whole : List ℕ = image l ++ rest in
-    let written : c.write_image.new.image ≡ image l = c.write_image.ensures ∙ ap image bytes in
-    let after : c.write_image.new.image ++ drop p.image xs ≡ whole =
+    let written : c.write_image.new.out ≡ image l = c.write_image.ensures ∙ ap image bytes in
+    let after : c.write_image.new.out ++ drop p.image xs ≡ whole =
     λ j. written j ++ drop ((ap (λ q. q.image) is ∙ sym long) j) xs in
     let size : ℕ = text_length l n in
     let fits : size ≤ length (image l) = omega (arith, long) in

@@ -20,8 +20,8 @@ loop-bytes-init c =
       stored = ap (λ p. take p.«data» c.args.«data».now) e;
     }
 
-pub write_next-requires : goal.write_next-requires
-write_next-requires c =
+pub write-requires : goal.write-requires
+write-requires c =
     let l = c.args.listing.bytes.now in
     let i = c.loop-bytes.bytes-index in
     let s = c.in-Some.standing in
@@ -32,8 +32,8 @@ write_next-requires c =
     (ap (λ w. w.place.section) at ∙ c.in-Text.is) in
     omega (arith, fits, size, c.requires.text)
 
-pub write_next-requires-in-Data : goal.write_next-requires-in-Data
-write_next-requires-in-Data c =
+pub write-requires-in-Data : goal.write-requires-in-Data
+write-requires-in-Data c =
     let l = c.args.listing.bytes.now in
     let i = c.loop-bytes.bytes-index in
     let s = c.in-Some.standing in
@@ -71,8 +71,8 @@ loop-bytes-preserved c =
           elim w.match-walk.branch [
             | in-Text w' ↦
                 let e = ap (λ q. q.section) at ∙ w'.in-Text.is in
-                let new = w'.write_next.new.out in
-                let told = ap (λ n. take (here p + n) new) (sym size) ∙ w'.write_next.ensures in
+                let new = w'.write.new.section in
+                let told = ap (λ n. take (here p + n) new) (sym size) ∙ w'.write.ensures in
                 record {
                   index = index;
                   place = rw add-one place;
@@ -83,8 +83,8 @@ loop-bytes-preserved c =
                 }
             | in-Data w' ↦
                 let e = ap (λ q. q.section) at ∙ w'.in-Data.is in
-                let new = w'.write_next-in-Data.new.out in
-                let told = ap (λ n. take (here p + n) new) (sym size) ∙ w'.write_next-in-Data.ensures in
+                let new = w'.write-in-Data.new.section in
+                let told = ap (λ n. take (here p + n) new) (sym size) ∙ w'.write-in-Data.ensures in
                 record {
                   index = index;
                   place = rw add-one place;

@@ -5,7 +5,7 @@ use Rattle.listing.specs.Slots.{slots, template, mended, nop}
 use Rattle.text.specs.Layout.{size_of}
 use Rattle.text.specs.Image.{words, word_bytes, word_of, filled}
 use Rattle.assembler.specs.Measures.{mend_at}
-use Rattle.assembler.proofs.writing.write_words.Goals as goal
+use Rattle.assembler.proofs.standing.Standing.write_words.Goals as goal
 
 -- two bytes more
 two_more : (xs : List ℕ) (n m a b : ℕ) → m ≡ n + 2 → n + 2 ≤ length xs → take m (set (set xs n a) (n + 1) b) ≡ take n xs ++ (a ∷ b ∷ [])
@@ -21,18 +21,18 @@ loop-k-init c = refl
 pub loop-k-preserved : goal.loop-k-preserved
 unfolding words
 loop-k-preserved c =
-    let s = c.args.standing.now in
+    let s = c.args.self.now in
     let k = c.loop-k.k in
     let xs = c.loop-k.out in
     let v = c.args.number.number in
     let at = s.walk.place.text in
     let ss = slots s.walk.place.result c.args.body s.«record» in
-    let w = c.word_of.result in
+    let w = c.filled_word.result in
     let mend = ap (λ m. m.mend) s.adds ∙ ap (λ m. mend_at m s.walk.place s.«record») c.requires.words in
     let slot : c.slot-slot.result ≡ get_or ss k nop =
     c.slot-slot.ensures ∙ ap (λ m. get_or (mended m (template c.args.body s.«record»)) k nop) mend in
     let is : w ≡ word_of (filled v (at + 2 * k) (get_or ss k nop)) =
-    c.word_of.ensures ∙ ap word_of (c.fill.ensures ∙ ap (filled v (at + 2 * k)) slot) in
+    c.filled_word.ensures ∙ ap (λ o. word_of (filled v (at + 2 * k) o)) slot in
     rw add-one (
     ap (λ bytes. take (2 * suc k) (set (set xs (2 * k) (get_or bytes 0 0)) (2 * k + 1) (get_or bytes 1 0))) c.to_be_bytes.ensures
     ∙ two_more xs (2 * k) (2 * suc k) (w / 256 % 256) (w % 256) (omega arith) (omega arith)
@@ -40,7 +40,7 @@ loop-k-preserved c =
 
 pub returns : goal.returns
 returns c =
-    let s = c.args.standing.now in
+    let s = c.args.self.now in
     let k = c.loop-k.k in
     let ss = slots s.walk.place.result c.args.body s.«record» in
     let size : length c.args.out.now ≡ 2 * length ss =
