@@ -17,7 +17,7 @@ fn is_near(at: u32, value: Value) -> bool
     ensures { result ≡ near at value.number }
 {
     let distance = value.distance_from(at);
-    value.bits() % 2 == 0 && distance >= -256 && distance <= 254
+    value.bits() % 2 == 0 && (-256..=254).contains(&distance)
 }
 
 fn is_reached_by(first: First, at: u32, value: Value) -> bool
@@ -47,7 +47,7 @@ impl Standing {
         ensures { result ≡ outside self.now.item value.number }
     {
         let low = if self.is_target() { 0 } else { -32768 };
-        value.number < low || value.number > 65535
+        !(low..=65535).contains(&value.number)
     }
 
     fn is_reached(&self, value: Value) -> bool

@@ -10,7 +10,7 @@ use crate::standing::Standing;
 use crate::walks::Walk;
 use isa::Refusal;
 use listing::{Item, Section};
-use text::{Place, Refused};
+use text::Refused;
 
 impl Standing {
     fn is_misplaced(&self) -> bool
@@ -67,13 +67,11 @@ impl Standing {
     }
 }
 
-// Lays all records out and answers the place after them, or says which is the first that cannot be laid out.
-pub(crate) fn lay_out(listing: Listing, labels: &mut Labels) -> Result<Place, Refused>
+// Lays all records out and answers the walk past them, or says which is the first that cannot be laid out.
+pub(crate) fn lay_out(listing: Listing, labels: &mut Labels) -> Result<Walk, Refused>
     requires { labels.old.marks ≡ start.labels }
     ensures err { result_err result ≡ unlaid listing.entry.bytes.now }
-    ensures ok { IfOk result (λ p. record { place = p; labels = labels.new.marks } ≡ laid_out listing.entry.bytes.now) }
-    ensures text { IfOk result (λ p. p.text ≤ 1073741824) }
-    ensures stored { IfOk result (λ p. p.«data» ≤ 1073741824) }
+    ensures ok { IfOk result (λ w. record { place = w.place; labels = labels.new.marks } ≡ laid_out listing.entry.bytes.now) }
 {
     let mut walk = Walk::start();
     for bytes in listing.records() {
@@ -81,5 +79,5 @@ pub(crate) fn lay_out(listing: Listing, labels: &mut Labels) -> Result<Place, Re
         walk.indexed(standing.lay(labels))?;
         walk = standing.next();
     }
-    Ok(walk.place)
+    Ok(walk)
 }

@@ -10,6 +10,7 @@ use crate::labels::Labels;
 use crate::laying::lay_out;
 use crate::listings::Listing;
 use crate::measuring::pad;
+use crate::walks::Walk;
 use isa::Refusal;
 use text::Refused;
 
@@ -30,7 +31,7 @@ impl Plan {
         ensures labels { OnOk result (labels.new.marks ≡ (laid_out listing.entry.bytes.now).labels) }
         ensures bound { IfOk result (λ p. (p.text ≤ 65280) × (p.image ≤ room)) }
     {
-        let place = lay_out(listing, labels)?;
+        let Walk { place, .. } = lay_out(listing, labels)?;
         let text = place.text + pad(place.text, 16);
         let image = text + place.data;
         if image > 65280 {

@@ -51,42 +51,32 @@ impl Standing {
         }
     }
 
-    fn place_after(&self) -> Place
-        ensures value { result ≡ moved self.now.walk.place self.now.record }
-        ensures text { result.text ≤ self.now.walk.place.text + 262144 }
-        ensures stored { result.«data» ≤ self.now.walk.place.«data» + 262144 }
-    {
-        let place = self.walk.place;
-        let section = self.section_after();
-        let size = self.measure.size;
-        match place.section {
-            Section::Text => Place {
-                section,
-                text: place.text + size,
-                data: place.data,
-                result: if size == 0 {
-                    place.result
-                } else {
-                    self.measure.result
-                },
-            },
-            Section::Data => Place {
-                section,
-                data: place.data + size,
-                ..place
-            },
-        }
-    }
-
     // Past the record.
     pub fn next(&self) -> Walk
         requires { self.now.walk.index < 4096 }
         ensures index { result.index ≡ self.now.walk.index + 1 }
         ensures place { result.place ≡ moved self.now.walk.place self.now.record }
     {
+        let place = self.walk.place;
+        let section = self.section_after();
+        let size = self.measure.size;
+        let place = match place.section {
+            Section::Text if size > 0 => Place {
+                section,
+                text: place.text + size,
+                result: self.measure.result,
+                ..place
+            },
+            Section::Text => Place { section, ..place },
+            Section::Data => Place {
+                section,
+                data: place.data + size,
+                ..place
+            },
+        };
         Walk {
             index: self.walk.index + 1,
-            place: self.place_after(),
+            place,
         }
     }
 }
