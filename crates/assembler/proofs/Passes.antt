@@ -1,12 +1,11 @@
 -- What a pass says of one record.
-use Rattle.std.proofs.Common.{◌≡◌, ℕ, List, ℤ, Some, None, Option, sym, refl, ap, ◌∙◌}
+use Rattle.std.proofs.Common.{◌≡◌, ℕ, List, Some, None, Option, sym, refl, ◌∙◌}
 use Rattle.isa.specs.declared.refusals.Refusal.{Refusal}
 use Rattle.listing.specs.declared.records.Record.{Record}
-use Rattle.listing.specs.Meaning.{meaning}
 use Rattle.listing.specs.Reading.{record_at}
 use Rattle.text.specs.declared.places.Place.{Place}
 use Rattle.text.specs.declared.places.Mark.{Mark}
-use Rattle.text.specs.Layout.{moved, marked_by, after, record_refusal, refused_at, layout_refusal, laid, laid_more}
+use Rattle.text.specs.Layout.{record_refusal, refused_at, layout_refusal, laid}
 use Rattle.text.specs.Image.{value}
 use Rattle.text.specs.Values.{value_refusal, checked}
 

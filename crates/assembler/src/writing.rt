@@ -28,7 +28,7 @@ impl Standing {
             record: self.record,
         };
         let at = self.walk.place.text as u32;
-        // By index, since the pairs that `chunks_exact_mut` lends do not say what they leave in the slice.
+        // By index: once the pairs that `chunks_exact_mut` lends are gone, a proof knows nothing of what they left in `out`.
         for k in 0..out.len() / 2 {
             let slot = template.slot(self.measure.mend, k);
             let [high, low] = filled_word(slot, number, at + 2 * k as u32).to_be_bytes();

@@ -1,4 +1,4 @@
-use Rattle.std.proofs.Common.{◌≡◌, ℕ, ◌/◌, Some, None, Err, Option, length, sym, refl, ap, ◌∙◌, subst, add-one, arith}
+use Rattle.std.proofs.Common.{◌≡◌, ℕ, ◌/◌, Some, None, Err, Option, length, sym, refl, ap, ◌∙◌, add-one, arith}
 use Rattle.std.specs.Result.{result_err}
 use Rattle.std.proofs.lemmas.Result.{err_from_is_err_and}
 use Rattle.text.specs.declared.outcomes.Refused.{Refused}
@@ -6,9 +6,8 @@ use Rattle.listing.specs.Reading.{record_at}
 use Rattle.text.specs.Layout.{laid, after, first_refused}
 use Rattle.text.specs.Values.{checked}
 use Rattle.text.proofs.Lengths.{place_more}
-use Rattle.assembler.specs.Records.{record_in}
 use Rattle.assembler.proofs.Steps.{refuses, passes}
-use Rattle.assembler.proofs.Passes.{checks, unrefused}
+use Rattle.assembler.proofs.Passes.{checks}
 use Rattle.assembler.proofs.checking.check_values.Goals as goal
 use Rattle.assembler.proofs.checking.check_values.Goals.{in-Some+in_ok-indexed-in-Some, in-None}
 

@@ -1,11 +1,11 @@
 use Rattle.std.proofs.Common.{◌≡◌, ℕ, ◌/◌, Some, None, Err, Option, length, sym, refl, ap, ◌∙◌, subst, add-one, arith}
 use Rattle.std.specs.Option.{ok_or, IfSome}
-use Rattle.std.specs.Result.{result_err, result_ok}
-use Rattle.std.proofs.lemmas.Result.{err_from_is_err_and, IfOk-from_err}
+use Rattle.std.specs.Result.{result_err}
+use Rattle.std.proofs.lemmas.Result.{err_from_is_err_and}
 use Rattle.isa.specs.declared.refusals.Refusal.TheVariants as refusal
 use Rattle.text.specs.declared.outcomes.Refused.{Refused}
 use Rattle.listing.specs.Reading.{record_at}
-use Rattle.text.specs.Layout.{laid, laid_more, marked_by, layout_refusal, first_refused, start}
+use Rattle.text.specs.Layout.{laid, laid_more, marked_by, layout_refusal, first_refused}
 use Rattle.assembler.specs.Records.{record_in}
 use Rattle.assembler.proofs.Steps.{refuses, passes}
 use Rattle.assembler.proofs.Passes.{lays, unrefused}

@@ -1,10 +1,10 @@
-use Rattle.std.proofs.Common.{◌≡◌, ℕ, ◌+◌, ◌/◌, ◌++◌, length, take, Some, None, sym, refl, ap, ◌∙◌, add-one, arith}
+use Rattle.std.proofs.Common.{◌≡◌, ◌+◌, ◌/◌, length, take, None, sym, refl, ap, ◌∙◌, add-one, arith}
 use Rattle.listing.specs.declared.items.Section.TheVariants.{Text, Data}
 use Rattle.listing.specs.Meaning.{meaning}
 use Rattle.listing.specs.Reading.{record_at}
 use Rattle.text.specs.Layout.{here, size_of, moved, after, laid}
-use Rattle.text.specs.Image.{record_bytes, section_bytes}
-use Rattle.text.proofs.Lengths.{place_more, total}
+use Rattle.text.specs.Image.{section_bytes}
+use Rattle.text.proofs.Lengths.{place_more}
 use Rattle.assembler.proofs.Sections.{room, filled_own, filled_other, one_more, none_more}
 use Rattle.assembler.proofs.writing.write_sections.Goals as goal
 use Rattle.assembler.proofs.writing.write_sections.Goals.{in-Some, in-Text, in-Data, in-None}
