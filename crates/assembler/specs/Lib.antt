@@ -1,4 +1,4 @@
+pub mod Found
+pub mod Listings
 pub mod Measures
-pub mod Numbers
 pub mod Plans
-pub mod Records

@@ -1,6 +1,8 @@
 // Where labels lie once the length of the text is known.
-ghost use Rattle.std.specs.Prelude.{◌≡◌, ◌^◌, ◌<◌, ◌≤◌};
+ghost use Rattle.std.specs.Prelude.{◌≡◌, ◌^◌, ◌<◌, ◌≤◌, pos};
+ghost use Rattle.std.specs.Option.{unwrap_or};
 ghost use Rattle.text.specs.Image.{address, value};
+ghost use Rattle.assembler.specs.Found.{number_in};
 
 use crate::labels::Labels;
 use crate::values::Value;
@@ -25,12 +27,6 @@ impl<'a> Addresses<'a> {
             Section::Data => self.base + mark.offset as usize,
         }
     }
-}
-
-impl<'a> Addresses<'a> {
-    ghost use Rattle.std.specs.Prelude.{pos};
-    ghost use Rattle.std.specs.Option.{unwrap_or};
-    ghost use Rattle.assembler.specs.Numbers.{number_in};
 
     // A record's value; nothing where its label is not defined.
     pub fn value_of(self, record: Record) -> Option<Value>

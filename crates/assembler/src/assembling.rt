@@ -8,7 +8,7 @@ ghost use Rattle.text.specs.Immediates.{ImmediatesKept};
 ghost use Rattle.text.specs.Targets.{TargetsReached};
 ghost use Rattle.text.specs.Sizes.{SizesAgree};
 ghost use Rattle.assembler.specs.Plans.{plan_of};
-ghost use Rattle.assembler.specs.Records.{laid_out};
+ghost use Rattle.assembler.specs.Listings.{laid_out};
 
 use crate::addresses::Addresses;
 use crate::labels::Labels;

@@ -2,7 +2,7 @@
 ghost use Rattle.std.specs.Prelude.{◌≡◌, ◌≤◌, None, IfOk};
 ghost use Rattle.std.specs.Result.{result_err};
 ghost use Rattle.text.specs.Layout.{start, is_label, misplaced, twice, marked_by, record_refusal};
-ghost use Rattle.assembler.specs.Records.{laid_out, unlaid};
+ghost use Rattle.assembler.specs.Listings.{laid_out, unlaid};
 
 use crate::labels::Labels;
 use crate::listings::Listing;

@@ -1,5 +1,7 @@
 // The listing that is assembled.
-ghost use Rattle.std.specs.Prelude.{◌≡◌, ◌/◌, ◌%◌, ◌≤◌, length};
+ghost use Rattle.std.specs.Prelude.{◌≡◌, ℕ, ◌/◌, ◌%◌, ◌≤◌, length, Some, IfOk, IfErr};
+ghost use Rattle.text.specs.Answer.{failure};
+ghost use Rattle.assembler.specs.Listings.{HasRecords};
 
 use isa::Refusal;
 use text::Refused;
@@ -13,10 +15,6 @@ pub(crate) struct Listing<'a> {
 }
 
 impl<'a> Listing<'a> {
-    ghost use Rattle.std.specs.Prelude.{◌≡◌, ◌/◌, Some, length, ℕ, IfOk, IfErr};
-    ghost use Rattle.text.specs.Answer.{failure};
-    ghost use Rattle.assembler.specs.Records.{HasRecords};
-
     pub fn new(bytes: &'a [u8]) -> Result<Listing<'a>, Refused>
         ensures ok { IfOk result (λ l. l.bytes.now ≡ bytes.now) }
         ensures err { IfErr result (λ e. (room : ℕ) → failure bytes.now room ≡ Some e) }

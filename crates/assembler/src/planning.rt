@@ -2,7 +2,7 @@
 ghost use Rattle.std.specs.Prelude.{◌≡◌, ◌≤◌, IfOk, OnOk};
 ghost use Rattle.text.specs.Layout.{start};
 ghost use Rattle.assembler.specs.Plans.{plan_of, planned};
-ghost use Rattle.assembler.specs.Records.{laid_out};
+ghost use Rattle.assembler.specs.Listings.{laid_out};
 
 use crate::addresses::Addresses;
 use crate::checking::check_values;

@@ -1,6 +1,8 @@
 // Records where they stand.
-ghost use Rattle.std.specs.Prelude.{◌≡◌, ◌≤◌};
+ghost use Rattle.std.specs.Prelude.{◌≡◌, ◌+◌, ◌<◌, ◌≤◌, IfSome};
 ghost use Rattle.listing.specs.Meaning.{meaning};
+ghost use Rattle.listing.specs.Reading.{read_record};
+ghost use Rattle.text.specs.Layout.{moved, section_after};
 ghost use Rattle.assembler.specs.Measures.{measured};
 
 use crate::measuring::Measure;
@@ -21,10 +23,7 @@ pub(crate) struct Standing {
 }
 
 impl Standing {
-    ghost use Rattle.std.specs.Prelude.{◌≡◌, ◌+◌, ◌<◌, IfSome};
-    ghost use Rattle.listing.specs.Reading.{read_record};
-    ghost use Rattle.text.specs.Layout.{moved, section_after};
-    ghost use Rattle.assembler.specs.Records.{record_in};
+    ghost use Rattle.assembler.specs.Found.{record_in};
 
     // The next record; nothing where its operation is not listed.
     pub fn read(walk: Walk, bytes: &[u8; 8]) -> Option<Standing>

@@ -5,7 +5,7 @@ ghost use Rattle.listing.specs.declared.items.Section.TheVariants.{Text, Data};
 ghost use Rattle.listing.specs.Slots.{slots};
 ghost use Rattle.text.specs.Layout.{here};
 ghost use Rattle.text.specs.Image.{words, bytes_of, record_bytes, section_bytes};
-ghost use Rattle.assembler.specs.Records.{laid_out};
+ghost use Rattle.assembler.specs.Listings.{laid_out};
 
 use crate::addresses::Addresses;
 use crate::filling::filled_word;

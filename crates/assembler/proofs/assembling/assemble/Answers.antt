@@ -1,4 +1,4 @@
-use Rattle.std.proofs.Common.{◌≡◌, ℕ, ◌/◌, ◌≤◌, List, ◌++◌, length, take, drop, None, Ok, Err, sym, ap, ◌∙◌, subst, arith, length-append, length-take-le}
+use Rattle.std.proofs.Common.{◌≡◌, ℕ, ◌/◌, ◌≤◌, List, ◌++◌, length, take, drop, None, Ok, sym, ap, ◌∙◌, subst, arith, length-append, length-take-le}
 use Rattle.std.proofs.lemmas.Result.{err_from_is_err_and}
 use Rattle.text.specs.declared.outcomes.Answers.{Answers}
 use Rattle.text.specs.Image.{text_length, image}
@@ -23,11 +23,8 @@ returns-in_err-plan-clause-value c =
     let room = length c.args.image.now in
     let e = c.in_err-plan.field-0.0 in
     let p = err_from_is_err_and c.from_residual-in_err-plan.result c.from_residual-in_err-plan.ensures.1 in
-    let from = p.1 in
-    let to = p.2 in
-    let same : c.from_residual-in_err-plan.result ≡ Err e = cc in
     let told = c.in_err-plan.ensures.value ∙ ap (λ b. planned b room) c.in_ok-listing.ensures.ok in
-    same ∙ sym (ap (λ o. or_refused o (answers l)) (refused (failure l room) (plan_of l) e told))
+    rw (p.1, p.2) (sym (ap (λ o. or_refused o (answers l)) (refused (failure l room) (plan_of l) e told)))
 
 pub returns : goal.returns
 returns c =

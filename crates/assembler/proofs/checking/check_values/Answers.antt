@@ -1,5 +1,4 @@
-use Rattle.std.proofs.Common.{◌≡◌, ℕ, ◌/◌, Some, None, Err, Option, length, sym, refl, ap, ◌∙◌, add-one, arith}
-use Rattle.std.specs.Result.{result_err}
+use Rattle.std.proofs.Common.{◌≡◌, ℕ, ◌/◌, Some, None, Option, length, sym, refl, ap, ◌∙◌, add-one, arith}
 use Rattle.std.proofs.lemmas.Result.{err_from_is_err_and}
 use Rattle.text.specs.declared.outcomes.Refused.{Refused}
 use Rattle.listing.specs.Reading.{record_at}
@@ -29,11 +28,8 @@ returns-in_err-indexed-in-Some c =
     let told = checks l i c.loop-bytes.walk.index s.walk.place labels s.«record» inv.index known base _ place c.check_value.ensures in
     let e = c.in_err-indexed-in-Some.field-0.0 in
     let p = err_from_is_err_and c.from_residual.result c.from_residual.ensures.1 in
-    let from = p.1 in
-    let to = p.2 in
-    let same : c.from_residual.result ≡ Err e = cc in
     let here : f i ≡ Some e = told ∙ sym c.in_err-indexed-in-Some.ensures in
-    ap result_err same ∙ sym (refuses f e i (length l / 8) inv.none here (omega arith))
+    rw (p.1, p.2) (sym (refuses f e i (length l / 8) inv.none here (omega arith)))
 
 pub loop-bytes-preserved : goal.loop-bytes-preserved
 loop-bytes-preserved c =

@@ -1,12 +1,11 @@
 use Rattle.std.proofs.Common.{◌≡◌, ℕ, ◌/◌, Some, None, Err, Option, length, sym, refl, ap, ◌∙◌, subst, add-one, arith}
 use Rattle.std.specs.Option.{ok_or, IfSome}
-use Rattle.std.specs.Result.{result_err}
 use Rattle.std.proofs.lemmas.Result.{err_from_is_err_and}
 use Rattle.isa.specs.declared.refusals.Refusal.TheVariants as refusal
 use Rattle.text.specs.declared.outcomes.Refused.{Refused}
 use Rattle.listing.specs.Reading.{record_at}
 use Rattle.text.specs.Layout.{laid, laid_more, marked_by, layout_refusal, first_refused}
-use Rattle.assembler.specs.Records.{record_in}
+use Rattle.assembler.specs.Found.{record_in}
 use Rattle.assembler.proofs.Steps.{refuses, passes}
 use Rattle.assembler.proofs.Passes.{lays, unrefused}
 use Rattle.assembler.proofs.laying.lay_out.Goals as goal
@@ -27,9 +26,6 @@ returns-in_err-standing-clause-err c =
     let f : ℕ → Option Refused = λ k. layout_refusal (laid l k) (record_at l k) k in
     let e = c.in_err-standing.field-0.0 in
     let p = err_from_is_err_and c.from_residual.result c.from_residual.ensures.1 in
-    let from = p.1 in
-    let to = p.2 in
-    let same : c.from_residual.result ≡ Err e = cc in
     let none : c.read.result ≡ None = c.in_err-standing.ensures.ok_part in
     let known : record_at l i ≡ None =
     sym (c.records-bytes-items.ensures.records i (omega arith)) ∙ sym c.read.ensures.record ∙ ap record_in none in
@@ -37,7 +33,7 @@ returns-in_err-standing-clause-err c =
     let here : f i ≡ Some e =
     ap (λ o. layout_refusal (laid l i) o i) known
     ∙ (λ j. Some (record { refusal = refusal.Operation; index = sym inv.index j })) ∙ ap Some (sym c.refused.ensures) ∙ cc in
-    ap result_err same ∙ sym (refuses f e i (length l / 8) inv.none here (omega arith))
+    rw (p.1, p.2) (sym (refuses f e i (length l / 8) inv.none here (omega arith)))
 
 pub returns-in_err-indexed-clause-err : goal.returns-in_err-indexed-clause-err
 returns-in_err-indexed-clause-err c =
@@ -55,11 +51,8 @@ returns-in_err-indexed-clause-err c =
     let told = lays l i c.loop-bytes.walk.index s.walk.place c.loop-bytes.labels.marks s.«record» inv.index known _ layout c.lay.ensures.value in
     let e = c.in_err-indexed.field-0.0 in
     let p = err_from_is_err_and c.from_residual-in_err-indexed.result c.from_residual-in_err-indexed.ensures.1 in
-    let from = p.1 in
-    let to = p.2 in
-    let same : c.from_residual-in_err-indexed.result ≡ Err e = cc in
     let here : f i ≡ Some e = told ∙ sym c.in_err-indexed.ensures in
-    ap result_err same ∙ sym (refuses f e i (length l / 8) inv.none here (omega arith))
+    rw (p.1, p.2) (sym (refuses f e i (length l / 8) inv.none here (omega arith)))
 
 pub loop-bytes-preserved : goal.loop-bytes-preserved
 unfolding laid
