@@ -10,7 +10,6 @@ use Rattle.operations.specs.declared.values.Effect.TheVariants as effect
 use Rattle.operations.specs.Arithmetic.{following}
 use Rattle.operations.specs.Operations.{effect_of, gathered}
 use Rattle.machine.specs.declared.states.Side.TheVariants as side
-use Rattle.machine.specs.declared.states.Service.TheVariants as service
 use Rattle.machine.specs.declared.states.State.{State}
 use Rattle.machine.specs.declared.states.Plan.{Plan}
 use Rattle.machine.specs.Checks as check
@@ -39,7 +38,7 @@ unprefixed (Some x) h = clash (sym h)
 none_owed : (n : ℕ) → ltb 0 n ≡ false → n ≡ 0
 none_owed n h = grind (arith, nat_tests)
 
-module _ (s : State) (copies : List ℕ) (es : s.service ≡ service.Open copies) (w : ℕ) (p : Plan)
+module _ (s : State) (copies : List ℕ) (es : s.service ≡ Some copies) (w : ℕ) (p : Plan)
     (l : Lawful s side.Service (check.closes s side.Service w) (read_word w) p) (h : p.closes ≡ true) where
   -- it is jal r0,0(r14), with no prefix
   pub closing_word : (p.instruction ≡ Jal 0 14 0) × (s.prefix ≡ None)

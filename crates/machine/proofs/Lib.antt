@@ -1,7 +1,6 @@
 pub mod Counted
 pub mod Lawful
 pub mod Waiting
-pub mod Performing
 pub mod Fitting
 pub mod Running
 pub mod Ways

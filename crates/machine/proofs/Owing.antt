@@ -1,8 +1,6 @@
 -- What a service owes, register by register.
-use Rattle.std.proofs.Common.{◌≡◌, ℕ, zero, suc, ◌+◌, ◌≤◌, Bool, true, false, cond, eqb, List, get_or, sym, refl, ap, ◌∙◌, arith}
+use Rattle.std.proofs.Common.{◌≡◌, ℕ, zero, suc, ◌+◌, ◌≤◌, Bool, true, false, cond, eqb, List, get_or, sym, refl, ap, ◌∙◌, arith, Option, Some, None}
 use Rattle.std.proofs.lemmas.Bool.Decides.{nat_tests}
-use Rattle.machine.specs.declared.states.Service.{Service}
-use Rattle.machine.specs.declared.states.Service.TheVariants as service
 use Rattle.machine.specs.declared.states.State.{State}
 use Rattle.machine.specs.Checks as check
 use Rattle.machine.specs.Laws.{OwingLaws}
@@ -29,9 +27,9 @@ few_differ xs ys (suc n) =
     let f = one_more (eqb (get_or xs (n + 1) 0) (get_or ys (n + 1) 0)) in
     omega arith
 
-few_owed : (xs : List ℕ) (v : Service) → check.owed xs v ≤ 15
-few_owed xs (service.Closed) = omega arith
-few_owed xs (service.Open copies) = few_differ xs copies 15
+few_owed : (xs : List ℕ) (v : Option (List ℕ)) → check.owed xs v ≤ 15
+few_owed xs None = omega arith
+few_owed xs (Some copies) = few_differ xs copies 15
 
 pub owing_laws : (s : State) (count : ℕ) → count ≡ check.owing s → OwingLaws s count
 owing_laws s count e =

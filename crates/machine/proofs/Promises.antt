@@ -1,13 +1,11 @@
 -- The laws of a step.
-use Rattle.std.proofs.Common.{◌≡◌, ℕ, zero, suc, ◌+◌, ◌*◌, ◌/◌, ◌%◌, ◌<◌, Bool, true, false, cond, not, List, get_or, set, Ok, Err, Result, sym, refl, ap, ◌∙◌, arith, get_or-set_other, get_or-set_same}
+use Rattle.std.proofs.Common.{◌≡◌, ℕ, zero, suc, ◌+◌, ◌*◌, ◌/◌, ◌%◌, ◌<◌, Bool, true, false, cond, not, List, get_or, set, Ok, Err, Result, sym, refl, ap, ◌∙◌, arith, get_or-set_other, get_or-set_same, Option, Some, None}
 use Rattle.isa.specs.declared.refusals.Refusal.{Refusal}
 use Rattle.isa.specs.Registers.{interlocked, interlocked_reading, reads_interlocked}
 use Rattle.memory.specs.Meaning.{Meaning}
 use Rattle.memory.specs.Words.{word_at}
 use Rattle.machine.specs.declared.states.Side.{Side}
 use Rattle.machine.specs.declared.states.Side.TheVariants as side
-use Rattle.machine.specs.declared.states.Service.{Service}
-use Rattle.machine.specs.declared.states.Service.TheVariants as service
 use Rattle.machine.specs.declared.states.Layout.{Layout}
 use Rattle.machine.specs.declared.states.State.{State}
 use Rattle.machine.specs.declared.states.Plan.{Plan}
@@ -81,7 +79,7 @@ module _ (s : State) (b : ℕ → ℕ) (o : ℕ → Bool) where
 
 -- what an open service was lent at r and b, and holds at s and c
 record Lent (r : State) (b : ℕ → ℕ) (s : State) (c : ℕ → ℕ) : Type 0 where
-  copies : s.service ≡ service.Open (set r.registers 14 r.counter)
+  copies : s.service ≡ Some (set r.registers 14 r.counter)
   layout : s.layout ≡ r.layout
   outside : (a : ℕ) → inside r.layout a ≡ false → c a ≡ b a
 
@@ -91,7 +89,7 @@ module _ (r : State) (b : ℕ → ℕ) (o : ℕ → Bool) (takes : Takes r) wher
 
   -- a step while the service is open is a service word or refused
   module _ (s : State) (c : ℕ → ℕ) (lent : Lent r b s c) where
-    not_closed : s.service ≡ service.Closed → {A : Type 0} → A
+    not_closed : s.service ≡ None → {A : Type 0} → A
     not_closed h = let e = lent.copies in let z : ◌≡◌ {A = ℕ} 0 1 = cc in absurd (omega arith)
 
     serves : (Q : step.Outcome → Type 0)
@@ -113,14 +111,14 @@ module _ (r : State) (b : ℕ → ℕ) (o : ℕ → Bool) (takes : Takes r) wher
         let top : s.layout.high % 2 ≡ 0 = ap (λ (x : Layout). x.high % 2) lent.layout ∙ takes.formed.upper in
         service_range c o s.layout top p.effect l.even l.memory l.allowed a (ap (λ (x : Layout). inside x a) lent.layout ∙ h) ∙ lent.outside a h
 
-    service_after : (p : Plan) → (step.after s c side.Service p p.effect).service ≡ cond p.closes service.Closed s.service
+    service_after : (p : Plan) → (step.after s c side.Service p p.effect).service ≡ cond p.closes None s.service
     service_after p = ap (λ (t : State). t.service) (settles s c side.Service p p.effect).is
 
-    open_by : (q : Bool) (v : Service) → v ≡ cond q service.Closed s.service → closed v ≡ false → v ≡ service.Open kept
+    open_by : (q : Bool) (v : Option (List ℕ)) → v ≡ cond q None s.service → closed v ≡ false → v ≡ Some kept
     open_by true v e h = clash (sym (ap closed e) ∙ h)
     open_by false v e h = e ∙ lent.copies
 
-    shut_by : (q : Bool) (v : Service) → v ≡ cond q service.Closed s.service → closed v ≡ true → q ≡ true
+    shut_by : (q : Bool) (v : Option (List ℕ)) → v ≡ cond q None s.service → closed v ≡ true → q ≡ true
     shut_by true v e h = refl
     shut_by false v e h = clash (sym h ∙ ap closed (e ∙ lent.copies))
 

@@ -5,7 +5,6 @@ use Rattle.machine.specs.declared.states.State.{State}
 use Rattle.machine.specs.declared.answers.Step.{Step}
 use Rattle.machine.specs.declared.answers.StepRefusal.{StepRefusal}
 use Rattle.machine.specs.declared.answers.Tally.{Tally}
-use Rattle.machine.specs.declared.answers.End.TheVariants as end
 use Rattle.machine.specs.declared.answers.Run.{Run}
 use Rattle.machine.specs.Steps.{stepped}
 use Rattle.machine.specs.Runs.{Ran, Runs, ran, go_on, counted, no_steps}
@@ -43,8 +42,8 @@ abbrev total : Tally → ℕ
 total t = t.own + t.service + t.takings
 
 module _ (n : ℕ) (s : State) (b : ℕ → ℕ) (o : ℕ → Bool) (t : Tally)
-    (rest : (u : Tally) → (ran n s b o u).answer.end ≡ end.Spent → total (ran n s b o u).answer.tally ≡ total u + n) where
-  whole_on : (r : Result Step StepRefusal) → (go_on r s b t (λ u. ran n s b o u)).answer.end ≡ end.Spent
+    (rest : (u : Tally) → (ran n s b o u).answer.end ≡ Ok tt → total (ran n s b o u).answer.tally ≡ total u + n) where
+  whole_on : (r : Result Step StepRefusal) → (go_on r s b t (λ u. ran n s b o u)).answer.end ≡ Ok tt
       → total (go_on r s b t (λ u. ran n s b o u)).answer.tally ≡ total t + suc n
   whole_on (Ok a) h =
       let e = rest (counted t a) h in
@@ -52,7 +51,7 @@ module _ (n : ℕ) (s : State) (b : ℕ → ℕ) (o : ℕ → Bool) (t : Tally)
       omega arith
   whole_on (Err f) h = let z : ◌≡◌ {A = ℕ} 0 1 = cc in absurd (omega arith)
 
-whole_by : (n : ℕ) (s : State) (b : ℕ → ℕ) (o : ℕ → Bool) (t : Tally) → (ran n s b o t).answer.end ≡ end.Spent → total (ran n s b o t).answer.tally ≡ total t + n
+whole_by : (n : ℕ) (s : State) (b : ℕ → ℕ) (o : ℕ → Bool) (t : Tally) → (ran n s b o t).answer.end ≡ Ok tt → total (ran n s b o t).answer.tally ≡ total t + n
 whole_by zero s b o t h = omega arith
 whole_by (suc n) s b o t h =
     whole_on n (stepped s b o).state (stepped s b o).bytes o t (λ u. whole_by n (stepped s b o).state (stepped s b o).bytes o u) (stepped s b o).answer h

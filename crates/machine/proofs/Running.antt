@@ -6,7 +6,6 @@ use Rattle.machine.specs.declared.answers.Step.{Step}
 use Rattle.machine.specs.declared.answers.Step.TheVariants as step
 use Rattle.machine.specs.declared.answers.StepRefusal.{StepRefusal}
 use Rattle.machine.specs.declared.answers.Tally.{Tally}
-use Rattle.machine.specs.declared.answers.End.TheVariants as end
 use Rattle.machine.specs.Steps.{stepped}
 use Rattle.machine.specs.Runs.{Ran, ran, go_on, counted}
 
@@ -25,7 +24,7 @@ module _ (n : ℕ) (s : State) (b : ℕ → ℕ) (o : ℕ → Bool) (t : Tally) 
 
   -- one step that was refused
   pub ran_refused : (m : ℕ) (r : Result Step StepRefusal) (f : StepRefusal) → m ≡ suc n → r ≡ (stepped s b o).answer → r ≡ Err f
-      → ran m s b o t ≡ record { answer = record { tally = t; end = end.Refused f }; state = (stepped s b o).state; bytes = (stepped s b o).bytes }
+      → ran m s b o t ≡ record { answer = record { tally = t; end = Err f }; state = (stepped s b o).state; bytes = (stepped s b o).bytes }
   ran_refused m r f e h k = ap (λ k. ran k s b o t) e ∙ ap next (sym h ∙ k)
 
 pub counted_more : (t : Tally) (a : Step) → (counted t a).own + (counted t a).service + (counted t a).takings ≡ t.own + t.service + t.takings + 1

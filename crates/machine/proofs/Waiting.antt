@@ -1,5 +1,5 @@
 -- A request waits no longer than the interlocked words passed since.
-use Rattle.std.proofs.Common.{◌≡◌, ℕ, ◌*◌, ◌<◌, ◌≤◌, Bool, true, false, cond, not, ◌&&◌, is_some, Some, None, Ok, Option, sym, refl, subst, arith}
+use Rattle.std.proofs.Common.{◌≡◌, ℕ, ◌*◌, ◌<◌, ◌≤◌, Bool, true, false, cond, not, ◌&&◌, is_some, Some, None, Ok, Option, sym, refl, subst, arith, List}
 use Rattle.std.proofs.lemmas.Bool.Decides.{nat_tests}
 use Rattle.isa.specs.declared.instructions.Instruction.{Instruction}
 use Rattle.isa.specs.declared.instructions.Instruction.TheVariants.{Add, Sub, Addi, Register, Immediate, Lw, Lb, Sw, Sb, Jal, Branch, Call, Imm}
@@ -10,8 +10,6 @@ use Rattle.operations.specs.declared.values.Effect.{Effect}
 use Rattle.operations.specs.declared.values.Effect.TheVariants as effect
 use Rattle.operations.specs.Arithmetic.{following}
 use Rattle.operations.specs.Operations.{effect_of}
-use Rattle.machine.specs.declared.states.Service.{Service}
-use Rattle.machine.specs.declared.states.Service.TheVariants as service
 use Rattle.machine.specs.declared.states.Side.{Side}
 use Rattle.machine.specs.declared.states.Side.TheVariants as side
 use Rattle.machine.specs.declared.states.State.{State}
@@ -26,34 +24,34 @@ clash : {A : Type 0} → false ≡ true → A
 clash h = let z : ◌≡◌ {A = ℕ} 0 1 = cc in absurd (omega arith)
 
 -- what a core keeps of a pending request
-abbrev Kept : Option ℕ → Bool → Service → ℕ → Type 0
+abbrev Kept : Option ℕ → Bool → Option (List ℕ) → ℕ → Type 0
 Kept pending ready v counter = (wait_of pending ≤ 32640) × (cond ready 0 (2 * wait_of pending) ≤ counter) × (cond (closed v) 0 (wait_of pending) ≡ 0)
 
-abbrev due_by : Service → Option ℕ → Bool → Side → Bool
+abbrev due_by : Option (List ℕ) → Option ℕ → Bool → Side → Bool
 due_by v pending ready (side.Own) = closed v && not (is_some pending && ready)
 due_by v pending ready (side.Service) = not (closed v)
 
-none_waits : (ready : Bool) (v : Service) (counter : ℕ) → Kept None ready v counter
-none_waits true (service.Closed) c = (omega arith, omega arith, refl)
-none_waits true (service.Open x) c = (omega arith, omega arith, refl)
-none_waits false (service.Closed) c = (omega arith, omega arith, refl)
-none_waits false (service.Open x) c = (omega arith, omega arith, refl)
+none_waits : (ready : Bool) (v : Option (List ℕ)) (counter : ℕ) → Kept None ready v counter
+none_waits true None c = (omega arith, omega arith, refl)
+none_waits true (Some x) c = (omega arith, omega arith, refl)
+none_waits false None c = (omega arith, omega arith, refl)
+none_waits false (Some x) c = (omega arith, omega arith, refl)
 
-waits : (d : Side) (pending : Option ℕ) (ready : Bool) (v : Service) (counter next : ℕ) (k closes : Bool)
+waits : (d : Side) (pending : Option ℕ) (ready : Bool) (v : Option (List ℕ)) (counter next : ℕ) (k closes : Bool)
     → due_by v pending ready d ≡ true → (d ≡ side.Own → counter < 65280) → Kept pending ready v counter → (k ≡ true → next ≡ following counter)
-    → Kept (step.waited pending d) (not k) (cond closes service.Closed v) next
-waits d None ready v counter next k closes due small h on = none_waits (not k) (cond closes service.Closed v) next
-waits (side.Own) (Some n) true (service.Closed) counter next k closes due small h on = clash due
-waits (side.Own) (Some n) false (service.Closed) counter next true true due small h on = let e = on refl in let l = small refl in let x = h.1 in (omega arith, omega arith, refl)
-waits (side.Own) (Some n) false (service.Closed) counter next true false due small h on = let e = on refl in let l = small refl in let x = h.1 in (omega arith, omega arith, refl)
-waits (side.Own) (Some n) false (service.Closed) counter next false true due small h on = let l = small refl in let x = h.1 in (omega arith, omega arith, refl)
-waits (side.Own) (Some n) false (service.Closed) counter next false false due small h on = let l = small refl in let x = h.1 in (omega arith, omega arith, refl)
-waits (side.Own) (Some n) ready (service.Open c) counter next k closes due small h on = clash due
-waits (side.Service) (Some n) ready (service.Closed) counter next k closes due small h on = clash due
-waits (side.Service) (Some n) ready (service.Open c) counter next true true due small h on = let z = h.2 in (omega arith, omega arith, refl)
-waits (side.Service) (Some n) ready (service.Open c) counter next true false due small h on = let z = h.2 in (omega arith, omega arith, z)
-waits (side.Service) (Some n) ready (service.Open c) counter next false true due small h on = let z = h.2 in (omega arith, omega arith, refl)
-waits (side.Service) (Some n) ready (service.Open c) counter next false false due small h on = let z = h.2 in (omega arith, omega arith, z)
+    → Kept (step.waited pending d) (not k) (cond closes None v) next
+waits d None ready v counter next k closes due small h on = none_waits (not k) (cond closes None v) next
+waits (side.Own) (Some n) true None counter next k closes due small h on = clash due
+waits (side.Own) (Some n) false None counter next true true due small h on = let e = on refl in let l = small refl in let x = h.1 in (omega arith, omega arith, refl)
+waits (side.Own) (Some n) false None counter next true false due small h on = let e = on refl in let l = small refl in let x = h.1 in (omega arith, omega arith, refl)
+waits (side.Own) (Some n) false None counter next false true due small h on = let l = small refl in let x = h.1 in (omega arith, omega arith, refl)
+waits (side.Own) (Some n) false None counter next false false due small h on = let l = small refl in let x = h.1 in (omega arith, omega arith, refl)
+waits (side.Own) (Some n) ready (Some c) counter next k closes due small h on = clash due
+waits (side.Service) (Some n) ready None counter next k closes due small h on = clash due
+waits (side.Service) (Some n) ready (Some c) counter next true true due small h on = let z = h.2 in (omega arith, omega arith, refl)
+waits (side.Service) (Some n) ready (Some c) counter next true false due small h on = let z = h.2 in (omega arith, omega arith, z)
+waits (side.Service) (Some n) ready (Some c) counter next false true due small h on = let z = h.2 in (omega arith, omega arith, refl)
+waits (side.Service) (Some n) ready (Some c) counter next false false due small h on = let z = h.2 in (omega arith, omega arith, z)
 
 -- an interlocked word goes on to the next
 abbrev pub GoesOn : ℕ → Bool → Effect → Type 0
@@ -91,7 +89,7 @@ module _ (s : State) (b : ℕ → ℕ) (d : Side) (due : step.due s d ≡ true) 
   KeptBy t = Kept t.pending t.interruptible t.service t.counter
 
   settles : (next : ℕ) → (interlocked p.instruction ≡ true → next ≡ following s.counter)
-      → Kept (step.waited s.pending d) (not (interlocked p.instruction)) (cond p.closes service.Closed s.service) next
+      → Kept (step.waited s.pending d) (not (interlocked p.instruction)) (cond p.closes None s.service) next
   settles next on = waits d s.pending s.interruptible s.service s.counter next (interlocked p.instruction) p.closes (due_is s d due) small h on
 
   kept_by : (e : Effect) → GoesOn s.counter (interlocked p.instruction) e → KeptBy (step.after s b d p e)

@@ -8,8 +8,6 @@ use Rattle.operations.specs.declared.values.Effect.TheVariants as effect
 use Rattle.operations.specs.Arithmetic.{following}
 use Rattle.machine.specs.declared.states.Side.{Side}
 use Rattle.machine.specs.declared.states.Side.TheVariants as side
-use Rattle.machine.specs.declared.states.Service.{Service}
-use Rattle.machine.specs.declared.states.Service.TheVariants as service
 use Rattle.machine.specs.declared.states.State.{State}
 use Rattle.machine.specs.declared.states.Plan.{Plan}
 use Rattle.machine.specs.Layouts.{placed}
@@ -18,15 +16,24 @@ use Rattle.machine.specs.Steps as step
 
 -- a step of this side is due
 abbrev pub Due : State → Side → Type 0
-Due s (side.Own) = (s.service ≡ service.Closed) × ((n : ℕ) → s.pending ≡ Some n → s.interruptible ≡ false)
-Due s (side.Service) = (copies : List ℕ) × (s.service ≡ service.Open copies)
+Due s (side.Own) = (s.service ≡ None) × ((n : ℕ) → s.pending ≡ Some n → s.interruptible ≡ false)
+Due s (side.Service) = (copies : List ℕ) × (s.service ≡ Some copies)
 
 -- the step is refused so
 abbrev pub Refusing : State → (ℕ → ℕ) → Side → Refusal → Type 0
 Refusing s b d f = (f ≡ Astray) ⊎ ((placed s.layout d s.counter ≡ true) × (planned s d (word_at b s.counter) ≡ Err f))
 
+found_by : (q : Bool) (r : Result Plan Refusal) (p : Plan) → cond q r (Err Astray) ≡ Ok p → (q ≡ true) × (r ≡ Ok p)
+found_by true r p h = (refl, h)
+found_by false r p h = let z : ◌≡◌ {A = ℕ} 0 1 = cc in absurd (omega arith)
+
+-- a word that was found stands where it may, and was planned
+pub stands : (s : State) (b : ℕ → ℕ) (d : Side) (p : Plan) → step.found s b d ≡ Ok p
+    → (placed s.layout d s.counter ≡ true) × (planned s d (word_at b s.counter) ≡ Ok p)
+stands s b d p = found_by (placed s.layout d s.counter) (planned s d (word_at b s.counter)) p
+
 module _ (s : State) (b : ℕ → ℕ) (o : ℕ → Bool) (Q : step.Outcome → Type 0)
-    (takes : (n : ℕ) → s.service ≡ service.Closed → s.pending ≡ Some n → s.interruptible ≡ true → Q (step.taken s b n))
+    (takes : (n : ℕ) → s.service ≡ None → s.pending ≡ Some n → s.interruptible ≡ true → Q (step.taken s b n))
     (runs : (d : Side) (p : Plan) → Due s d → placed s.layout d s.counter ≡ true → planned s d (word_at b s.counter) ≡ Ok p → Q (step.applied s b o d (Ok p)))
     (stays : (d : Side) (f : Refusal) → Due s d → Refusing s b d f → Q (step.refused s b d f)) where
   planned_way : (d : Side) → Due s d → placed s.layout d s.counter ≡ true → (r : Result Plan Refusal) → planned s d (word_at b s.counter) ≡ r → Q (step.applied s b o d r)
@@ -34,15 +41,15 @@ module _ (s : State) (b : ℕ → ℕ) (o : ℕ → Bool) (Q : step.Outcome → 
   planned_way d due h (Err f) e = stays d f due (inr (h, e))
 
   placed_way : (d : Side) → Due s d → (q : Bool) → placed s.layout d s.counter ≡ q
-      → Q (cond q (step.applied s b o d (planned s d (word_at b s.counter))) (step.refused s b d Astray))
+      → Q (step.applied s b o d (cond q (planned s d (word_at b s.counter)) (Err Astray)))
   placed_way d due true h = planned_way d due h (planned s d (word_at b s.counter)) refl
   placed_way d due false h = stays d Astray due (inl refl)
 
-  way : (v : Service) (n : Option ℕ) (r : Bool) → s.service ≡ v → s.pending ≡ n → s.interruptible ≡ r → Q (step.stepped_by s b o v n r)
-  way (service.Closed) None r ev en er = placed_way side.Own (ev, λ n h. let z : ◌≡◌ {A = ℕ} 0 1 = cc in absurd (omega arith)) (placed s.layout side.Own s.counter) refl
-  way (service.Closed) (Some n) true ev en er = takes n ev en er
-  way (service.Closed) (Some n) false ev en er = placed_way side.Own (ev, λ n h. er) (placed s.layout side.Own s.counter) refl
-  way (service.Open copies) n r ev en er = placed_way side.Service (copies, ev) (placed s.layout side.Service s.counter) refl
+  way : (v : Option (List ℕ)) (n : Option ℕ) (r : Bool) → s.service ≡ v → s.pending ≡ n → s.interruptible ≡ r → Q (step.stepped_by s b o v n r)
+  way None None r ev en er = placed_way side.Own (ev, λ n h. let z : ◌≡◌ {A = ℕ} 0 1 = cc in absurd (omega arith)) (placed s.layout side.Own s.counter) refl
+  way None (Some n) true ev en er = takes n ev en er
+  way None (Some n) false ev en er = placed_way side.Own (ev, λ n h. er) (placed s.layout side.Own s.counter) refl
+  way (Some copies) n r ev en er = placed_way side.Service (copies, ev) (placed s.layout side.Service s.counter) refl
 
   pub ways : Q (step.stepped s b o)
   ways = way s.service s.pending s.interruptible refl refl refl

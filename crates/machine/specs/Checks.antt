@@ -11,8 +11,6 @@ use Rattle.operations.specs.Forerunners.{lacks}
 use Rattle.operations.specs.Operations.{gathered, effect_of, leaves, miscounts}
 use Rattle.machine.specs.declared.states.Side.{Side}
 use Rattle.machine.specs.declared.states.Side.TheVariants as side
-use Rattle.machine.specs.declared.states.Service.{Service}
-use Rattle.machine.specs.declared.states.Service.TheVariants as service
 use Rattle.machine.specs.declared.states.State.{State}
 use Rattle.machine.specs.declared.states.Plan.{Plan}
 use Rattle.machine.specs.Layouts.{is_own, is_odd, is_io, trespasses}
@@ -32,9 +30,9 @@ differing registers copies zero = 0
 differing registers copies (suc n) = differing registers copies n + cond (slice_index registers (n + 1) == slice_index copies (n + 1)) 0 1
 
 -- what a service owes
-abbrev pub owed : List ℕ → Service → ℕ
-owed registers (service.Closed) = 0
-owed registers (service.Open copies) = differing registers copies 15
+abbrev pub owed : List ℕ → Option (List ℕ) → ℕ
+owed registers None = 0
+owed registers (Some copies) = differing registers copies 15
 
 -- how many of r1 to r15 differ from the copies while a service is open, else 0
 abbrev pub owing : State → ℕ

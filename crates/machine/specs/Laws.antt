@@ -1,16 +1,14 @@
 -- What holds of every step and every run, above their definitions.
-use Rattle.std.specs.Prelude.{◌≡◌, ℕ, zero, suc, ◌+◌, ◌%◌, ◌<◌, ◌≤◌, Bool, true, false, List, length, Some, Ok, Err, Result, ◌≢◌, slice_index, slice_index_or}
+use Rattle.std.specs.Prelude.{◌≡◌, ℕ, zero, suc, ◌+◌, ◌%◌, ◌<◌, ◌≤◌, Bool, true, false, List, length, Some, Ok, Err, Result, ◌≢◌, slice_index, slice_index_or, None}
 use Rattle.isa.specs.Registers.{reads_interlocked}
 use Rattle.memory.specs.Meaning.{Meaning}
 use Rattle.memory.specs.Words.{word_at}
 use Rattle.machine.specs.declared.states.Side.{Side}
 use Rattle.machine.specs.declared.states.Side.TheVariants as side
-use Rattle.machine.specs.declared.states.Service.TheVariants as service
 use Rattle.machine.specs.declared.states.State.{State}
 use Rattle.machine.specs.declared.answers.Step.{Step}
 use Rattle.machine.specs.declared.answers.Step.TheVariants as step
 use Rattle.machine.specs.declared.answers.StepRefusal.{StepRefusal}
-use Rattle.machine.specs.declared.answers.End.TheVariants as end
 use Rattle.machine.specs.declared.answers.Run.{Run}
 use Rattle.machine.specs.Waits.{closed}
 use Rattle.machine.specs.Layouts.{inside}
@@ -31,7 +29,7 @@ pub record WellFormed (s : State) : Type 0 where
 -- a request is taken here
 pub record Takes (s : State) : Type 0 where
   pub formed : WellFormed s
-  pub shut : s.service ≡ service.Closed
+  pub shut : s.service ≡ None
   pub asks : (wait : ℕ) × (s.pending ≡ Some wait)
   pub ready : s.interruptible ≡ true
 
@@ -69,10 +67,10 @@ AllBack registers copies = (k : ℕ) → 1 ≤ k → k < 16 → slice_index regi
 -- the laws of what a service owes
 pub record OwingLaws (s : State) (count : ℕ) : Type 0 where
   -- nothing while none is open
-  pub shut : s.service ≡ service.Closed → count ≡ 0
+  pub shut : s.service ≡ None → count ≡ 0
   -- while one is open, nothing exactly where every register but r0 is as its copy
-  pub kept : (copies : List ℕ) → s.service ≡ service.Open copies → count ≡ 0 → AllBack s.registers copies
-  pub free : (copies : List ℕ) → s.service ≡ service.Open copies → AllBack s.registers copies → count ≡ 0
+  pub kept : (copies : List ℕ) → s.service ≡ Some copies → count ≡ 0 → AllBack s.registers copies
+  pub free : (copies : List ℕ) → s.service ≡ Some copies → AllBack s.registers copies → count ≡ 0
   -- at most the fifteen registers
   pub most : count ≤ 15
 
@@ -91,4 +89,4 @@ pub record RunLaws (budget : ℕ) (s : State) (m : Meaning) (answer : Run) (t : 
   -- it leaves core and memory as so many single steps do
   pub single : (t ≡ (repeated budget s m.byte m.mark).state) × (u.byte ≡ (repeated budget s m.byte m.mark).bytes)
   -- it says that it is spent only when it has made them all
-  pub whole : answer.end ≡ end.Spent → answer.tally.own + answer.tally.service + answer.tally.takings ≡ budget
+  pub whole : answer.end ≡ Ok tt → answer.tally.own + answer.tally.service + answer.tally.takings ≡ budget

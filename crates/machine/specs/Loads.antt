@@ -5,7 +5,6 @@ use Rattle.isa.specs.declared.refusals.Refusal.TheVariants.{Plan, Closed}
 use Rattle.memory.specs.Meaning.{Meaning}
 use Rattle.memory.specs.Words.{stored_image}
 use Rattle.operations.specs.declared.values.Forerunner.TheVariants as forerunner
-use Rattle.machine.specs.declared.states.Service.TheVariants as service
 use Rattle.machine.specs.declared.states.State.{State}
 use Rattle.machine.specs.declared.states.Layout.{Layout}
 
@@ -20,7 +19,7 @@ fresh l = record {
   served = 0;
   pending = None;
   interruptible = false;
-  service = service.Closed;
+  service = None;
   layout = l;
 }
 

@@ -7,7 +7,6 @@ use Rattle.machine.specs.declared.answers.Step.{Step}
 use Rattle.machine.specs.declared.answers.Step.TheVariants as step
 use Rattle.machine.specs.declared.answers.StepRefusal.{StepRefusal}
 use Rattle.machine.specs.declared.answers.Tally.{Tally}
-use Rattle.machine.specs.declared.answers.End.TheVariants as end
 use Rattle.machine.specs.declared.answers.Run.{Run}
 use Rattle.machine.specs.Steps.{memory_of, stepped}
 
@@ -32,11 +31,11 @@ pub record Ran : Type 0 where
 -- after a step that was made the run goes on; after a refused one it ends, and carries the refusal whole
 abbrev pub go_on : Result Step StepRefusal → State → (ℕ → ℕ) → Tally → (Tally → Ran) → Ran
 go_on (Ok made) s b t rest = rest (counted t made)
-go_on (Err refusal) s b t rest = record { answer = record { tally = t; end = end.Refused refusal }; state = s; bytes = b }
+go_on (Err refusal) s b t rest = record { answer = record { tally = t; end = Err refusal }; state = s; bytes = b }
 
 -- n steps of the budget are left
 abbrev pub ran : ℕ → State → (ℕ → ℕ) → (ℕ → Bool) → Tally → Ran
-ran zero s b o t = record { answer = record { tally = t; end = end.Spent }; state = s; bytes = b }
+ran zero s b o t = record { answer = record { tally = t; end = Ok tt }; state = s; bytes = b }
 ran (suc n) s b o t =
     let out = stepped s b o in
     go_on out.answer out.state out.bytes t (λ u. ran n out.state out.bytes o u)

@@ -14,15 +14,11 @@ use Rattle.operations.specs.declared.values.Effect.TheVariants as effect
 use Rattle.operations.specs.Arithmetic.{following}
 use Rattle.machine.specs.declared.states.Side.{Side}
 use Rattle.machine.specs.declared.states.Side.TheVariants as side
-use Rattle.machine.specs.declared.states.Service.{Service}
-use Rattle.machine.specs.declared.states.Service.TheVariants as service
 use Rattle.machine.specs.declared.states.State.{State}
 use Rattle.machine.specs.declared.states.Plan.{Plan}
 use Rattle.machine.specs.declared.answers.Step.{Step}
 use Rattle.machine.specs.declared.answers.Step.TheVariants as step
 use Rattle.machine.specs.declared.answers.StepRefusal.{StepRefusal}
-use Rattle.machine.specs.declared.answers.Turn.{Turn}
-use Rattle.machine.specs.declared.answers.Turn.TheVariants as turn
 use Rattle.machine.specs.Waits.{closed}
 use Rattle.machine.specs.Layouts.{is_own, placed}
 use Rattle.machine.specs.Checks.{planned}
@@ -57,7 +53,7 @@ settled s d p value next prefix = record {
   served = cond (is_own d) s.served (result p.instruction);
   pending = waited s.pending d;
   interruptible = not (interlocked p.instruction);
-  service = cond p.closes service.Closed s.service;
+  service = cond p.closes None s.service;
   layout = s.layout;
 }
 
@@ -138,10 +134,13 @@ applied s b o d (Ok p) = record {
   bytes = bytes_after b o p.effect;
 }
 
--- a word runs at the counter, where the side's words may stand
+-- the plan of the word at the counter, where the side's words may stand
+abbrev pub found : State → (ℕ → ℕ) → Side → Result Plan Refusal
+found s b d = cond (placed s.layout d s.counter) (planned s d (word_at b s.counter)) (Err Astray)
+
+-- the word at the counter runs
 abbrev pub performed : State → (ℕ → ℕ) → (ℕ → Bool) → Side → Outcome
-performed s b o d =
-    cond (placed s.layout d s.counter) (applied s b o d (planned s d (word_at b s.counter))) (refused s b d Astray)
+performed s b o d = applied s b o d (found s b d)
 
 -- a request is taken: r14 gets the counter, the counter 0x0010, then all sixteen registers are copied; this counts as a word with result r14
 abbrev pub taking : State → State
@@ -156,7 +155,7 @@ taking s =
       served = 14;
       pending = None;
       interruptible = s.interruptible;
-      service = service.Open kept;
+      service = Some kept;
       layout = s.layout;
     }
 
@@ -165,11 +164,11 @@ abbrev pub taken : State → (ℕ → ℕ) → ℕ → Outcome
 taken s b wait = record { answer = Ok (step.Taken wait); state = taking s; bytes = b }
 
 -- a request is taken exactly when one is pending, no service is open and the last word left the core interruptible; else one word runs
-abbrev pub stepped_by : State → (ℕ → ℕ) → (ℕ → Bool) → Service → Option ℕ → Bool → Outcome
-stepped_by s b o (service.Closed) None ready = performed s b o side.Own
-stepped_by s b o (service.Closed) (Some wait) true = taken s b wait
-stepped_by s b o (service.Closed) (Some wait) false = performed s b o side.Own
-stepped_by s b o (service.Open copies) pending ready = performed s b o side.Service
+abbrev pub stepped_by : State → (ℕ → ℕ) → (ℕ → Bool) → Option (List ℕ) → Option ℕ → Bool → Outcome
+stepped_by s b o None None ready = performed s b o side.Own
+stepped_by s b o None (Some wait) true = taken s b wait
+stepped_by s b o None (Some wait) false = performed s b o side.Own
+stepped_by s b o (Some copies) pending ready = performed s b o side.Service
 
 -- one step
 abbrev pub stepped : State → (ℕ → ℕ) → (ℕ → Bool) → Outcome
@@ -180,18 +179,11 @@ abbrev pub due : State → Side → Bool
 due s (side.Own) = closed s.service && not (is_some s.pending && s.interruptible)
 due s (side.Service) = not (closed s.service)
 
--- the public answer of what a step did
-abbrev pub answered : Turn → Result Step StepRefusal
-answered (turn.Taken wait) = Ok (step.Taken wait)
-answered (turn.Own) = Ok (step.Made side.Own)
-answered (turn.Service) = Ok (step.Made side.Service)
-answered (turn.Refused refusal) = Err refusal
-
 -- one request pends at a time, and none while a service is open
-abbrev pub busy_by : Service → Option ℕ → Bool
-busy_by (service.Closed) None = false
-busy_by (service.Closed) (Some n) = true
-busy_by (service.Open copies) pending = true
+abbrev pub busy_by : Option (List ℕ) → Option ℕ → Bool
+busy_by None None = false
+busy_by None (Some n) = true
+busy_by (Some copies) pending = true
 
 -- a request would be refused
 abbrev pub busy : State → Bool

@@ -1,10 +1,12 @@
 // What a word is about to do, decided without touching a memory.
 ghost use Rattle.std.specs.Prelude.{◌≡◌};
 ghost use Rattle.machine.specs.Checks as spec;
+ghost use Rattle.machine.specs.Steps.{found};
 
 use crate::layouts::{is_io, is_odd};
-use crate::states::{Plan, Service, Side, State};
+use crate::states::{Plan, Side, State};
 use isa::{Instruction, Refusal};
+use memory::{Memory, load_word};
 use operations::{Effect, Operands, gather};
 
 // How many of r1 to r15 differ from their copies.
@@ -41,8 +43,8 @@ impl State {
         ensures { result ≡ spec.owing self.now }
     {
         match &self.service {
-            Service::Closed => 0,
-            Service::Open(copies) => differing(&self.registers, copies),
+            None => 0,
+            Some(copies) => differing(&self.registers, copies),
         }
     }
 
@@ -98,7 +100,7 @@ impl State {
         }
     }
 
-    pub(crate) fn planned(&self, side: Side, word: u16) -> Result<Plan, Refusal>
+    fn planned(&self, side: Side, word: u16) -> Result<Plan, Refusal>
         ensures { result ≡ spec.planned self.now side word }
     {
         let instruction = isa::read(word)?;
@@ -114,5 +116,15 @@ impl State {
                 closes,
             }),
         }
+    }
+
+    // The plan of the word at the counter, which has to stand where the side's words may.
+    pub(crate) fn found<M: Memory>(&self, memory: &M, side: Side) -> Result<Plan, Refusal>
+        ensures { result ≡ found self.now (M.Memory.means memory.now).byte side }
+    {
+        if !self.layout.places(side, self.counter) {
+            return Err(Refusal::Astray);
+        }
+        self.planned(side, load_word(memory, self.counter))
     }
 }

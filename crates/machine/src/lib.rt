@@ -12,6 +12,6 @@ mod settling;
 mod states;
 mod steps;
 
-pub use answers::{End, Run, Step, StepRefusal, Tally};
+pub use answers::{Run, Step, StepRefusal, Tally};
 pub use body::Core;
 pub use states::{Layout, Side};

@@ -3,7 +3,7 @@ ghost use Rattle.std.specs.Prelude.{◌≡◌};
 ghost use Rattle.machine.specs.Loads as spec;
 
 use crate::body::Core;
-use crate::states::{Layout, Service, State};
+use crate::states::{Layout, State};
 use isa::Refusal;
 use memory::{Memory, store_image};
 use operations::Forerunner;
@@ -21,7 +21,7 @@ fn fresh(layout: Layout) -> State
         served: 0,
         pending: None,
         interruptible: false,
-        service: Service::Closed,
+        service: None,
         layout,
     }
 }

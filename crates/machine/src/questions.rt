@@ -6,7 +6,7 @@ ghost use Rattle.machine.specs.Waits.{closed};
 ghost use Rattle.machine.specs.Laws.{OwingLaws};
 
 use crate::body::Core;
-use crate::states::{Layout, Service};
+use crate::states::Layout;
 use isa::Refusal;
 
 impl Core {
@@ -28,10 +28,7 @@ impl Core {
     pub fn is_serving(&self) -> bool
         ensures { result ≡ not (closed self.now.state.service) }
     {
-        match self.state.service {
-            Service::Closed => false,
-            Service::Open(_) => true,
-        }
+        self.state.service.is_some()
     }
 
     // What a register holds; there are sixteen.

@@ -3,8 +3,9 @@ ghost use Rattle.std.specs.Prelude.{◌≡◌};
 ghost use Rattle.machine.specs.Laws.{RunLaws};
 ghost use Rattle.machine.specs.Runs as spec;
 
-use crate::answers::{End, Run, Tally, Turn};
+use crate::answers::{Run, Step, Tally};
 use crate::body::Core;
+use crate::states::Side;
 use memory::Memory;
 
 impl Core {
@@ -13,30 +14,22 @@ impl Core {
             result self.new.state (M.Memory.means memory.new) }
         ensures lent { M.Memory.loan memory.new ≡ M.Memory.loan memory.old }
     {
-        let mut tally = Tally {
-            own: 0,
-            service: 0,
-            takings: 0,
-            wait: 0,
-        };
+        let mut tally = Tally::default();
         for i in 0..budget {
             match self.turn(memory) {
-                Turn::Taken(wait) => {
+                Ok(Step::Taken(wait)) => {
                     tally.takings += 1;
                     tally.wait = wait;
                 }
-                Turn::Own => tally.own += 1,
-                Turn::Service => tally.service += 1,
-                Turn::Refused(refusal) => return Run {
+                Ok(Step::Made(Side::Own)) => tally.own += 1,
+                Ok(Step::Made(Side::Service)) => tally.service += 1,
+                Err(refusal) => return Run {
                     tally,
-                    end: End::Refused(refusal),
+                    end: Err(refusal),
                 },
             }
         }
-        Run {
-            tally,
-            end: End::Spent,
-        }
+        Run { tally, end: Ok(()) }
     }
 
     // Makes its whole budget of steps unless one is refused; the steps before it stand.

@@ -3,7 +3,7 @@ ghost use Rattle.std.specs.Prelude.{◌≡◌, ◌≤◌};
 ghost use Rattle.machine.specs.Waits.{wait_of};
 ghost use Rattle.machine.specs.Steps as spec;
 
-use crate::states::{Plan, Service, Side, State};
+use crate::states::{Plan, Side, State};
 use memory::{Memory, load_word, store_word};
 use operations::{Effect, Forerunner, Width};
 
@@ -103,7 +103,7 @@ impl State {
         self.pending = waited(self.pending, side);
         self.interruptible = !plan.instruction.is_interlocked();
         if plan.closes {
-            self.service = Service::Closed;
+            self.service = None;
         }
     }
 
@@ -126,7 +126,7 @@ impl State {
         self.registers[14] = self.counter;
         self.counter = 0x0010;
         let copies = self.registers;
-        self.service = Service::Open(copies);
+        self.service = Some(copies);
         self.pending = None;
         self.forerunner = Forerunner::Nothing;
         self.served = 14;

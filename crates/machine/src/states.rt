@@ -3,21 +3,14 @@ use isa::Instruction;
 use operations::{Effect, Forerunner};
 
 // Whose word a step runs: the program's own, or the service's.
-#[derive(Clone, Copy)]
+#[derive(Clone, Copy, PartialEq, Eq)]
 pub enum Side {
     Own,
     Service,
 }
 
-// An open service has the sixteen registers as they were copied when its request was taken.
-#[derive(Clone, Copy)]
-pub enum Service {
-    Closed,
-    Open([u16; 16]),
-}
-
 // The text length, and the service range from low up to, not including, high.
-#[derive(Clone, Copy)]
+#[derive(Clone, Copy, PartialEq, Eq)]
 pub struct Layout {
     pub text: u16,
     pub low: u16,
@@ -26,6 +19,7 @@ pub struct Layout {
 
 // `made` and `served` are the registers that the last own word and the last service word wrote, 0 for none.
 // `pending` has the own steps that succeeded since the request was accepted.
+// `service` has the sixteen registers of an open service as they were copied when its request was taken.
 #[derive(Clone, Copy)]
 pub struct State {
     pub counter: u16,
@@ -36,7 +30,7 @@ pub struct State {
     pub served: u8,
     pub pending: Option<u16>,
     pub interruptible: bool,
-    pub service: Service,
+    pub service: Option<[u16; 16]>,
     pub layout: Layout,
 }
 

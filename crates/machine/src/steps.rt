@@ -3,24 +3,11 @@ ghost use Rattle.std.specs.Prelude.{◌≡◌, true};
 ghost use Rattle.machine.specs.Laws.{StepLaws};
 ghost use Rattle.machine.specs.Steps as spec;
 
-use crate::answers::{Step, StepRefusal, Turn};
+use crate::answers::{Step, StepRefusal};
 use crate::body::Core;
-use crate::states::{Service, Side};
+use crate::states::Side;
 use isa::Refusal;
-use memory::{Memory, load_word};
-
-impl Turn {
-    fn answer(self) -> Result<Step, StepRefusal>
-        ensures { result ≡ spec.answered self }
-    {
-        match self {
-            Turn::Taken(wait) => Ok(Step::Taken(wait)),
-            Turn::Own => Ok(Step::Made(Side::Own)),
-            Turn::Service => Ok(Step::Made(Side::Service)),
-            Turn::Refused(refusal) => Err(refusal),
-        }
-    }
-}
+use memory::Memory;
 
 impl Core {
     // Holds one request pending, unless one is pending already or a service is open.
@@ -28,51 +15,37 @@ impl Core {
         ensures answer { result ≡ spec.asking self.old.state }
         ensures state { self.new.state ≡ spec.asked self.old.state }
     {
-        match (self.state.service, self.state.pending) {
-            (Service::Closed, None) => {
-                self.state.pending = Some(0);
-                Ok(())
-            }
-            _ => Err(Refusal::Busy),
+        if self.state.service.is_some() || self.state.pending.is_some() {
+            return Err(Refusal::Busy);
         }
+        self.state.pending = Some(0);
+        Ok(())
     }
 
     // Runs the word at the counter.
-    fn perform<M: Memory>(&mut self, memory: &mut M, side: Side) -> Turn
+    fn perform<M: Memory>(&mut self, memory: &mut M, side: Side) -> Result<Step, StepRefusal>
         requires { spec.due self.old.state side ≡ true }
         ensures exact { spec.Performs side self.old.state (M.Memory.means memory.old)
-            (spec.answered result) self.new.state (M.Memory.means memory.new) }
+            result self.new.state (M.Memory.means memory.new) }
         ensures lent { M.Memory.loan memory.new ≡ M.Memory.loan memory.old }
     {
         let address = self.state.counter;
-        if !self.state.layout.places(side, address) {
-            return Turn::Refused(StepRefusal {
-                refusal: Refusal::Astray,
-                address,
-                side,
-            });
-        }
-        let word = load_word(memory, address);
-        match self.state.planned(side, word) {
-            Err(refusal) => Turn::Refused(StepRefusal {
+        let plan = self
+            .state
+            .found(memory, side)
+            .map_err(|refusal| StepRefusal {
                 refusal,
                 address,
                 side,
-            }),
-            Ok(plan) => {
-                self.state.apply(side, &plan, memory);
-                match side {
-                    Side::Own => Turn::Own,
-                    Side::Service => Turn::Service,
-                }
-            }
-        }
+            })?;
+        self.state.apply(side, &plan, memory);
+        Ok(Step::Made(side))
     }
 
     // Takes the pending request if one may be taken now, else runs a word.
-    pub(crate) fn turn<M: Memory>(&mut self, memory: &mut M) -> Turn
+    pub(crate) fn turn<M: Memory>(&mut self, memory: &mut M) -> Result<Step, StepRefusal>
         ensures exact { spec.Steps self.old.state (M.Memory.means memory.old)
-            (spec.answered result) self.new.state (M.Memory.means memory.new) }
+            result self.new.state (M.Memory.means memory.new) }
         ensures lent { M.Memory.loan memory.new ≡ M.Memory.loan memory.old }
     {
         let side = match (
@@ -80,12 +53,12 @@ impl Core {
             self.state.pending,
             self.state.interruptible,
         ) {
-            (Service::Closed, Some(wait), true) => {
+            (None, Some(wait), true) => {
                 self.state.take();
-                return Turn::Taken(wait);
+                return Ok(Step::Taken(wait));
             }
-            (Service::Closed, _, _) => Side::Own,
-            (Service::Open(_), _, _) => Side::Service,
+            (None, _, _) => Side::Own,
+            (Some(_), _, _) => Side::Service,
         };
         self.perform(memory, side)
     }
@@ -98,6 +71,6 @@ impl Core {
             result self.new.state (M.Memory.means memory.new) }
         ensures lent { M.Memory.loan memory.new ≡ M.Memory.loan memory.old }
     {
-        self.turn(memory).answer()
+        self.turn(memory)
     }
 }
