@@ -6,7 +6,7 @@ use Rattle.machine.specs.declared.states.Layout.{Layout}
 use Rattle.machine.specs.Loads.{fits, open_below}
 
 -- a layout that fits has even ends and text below 0xFF00
-pub fitting : (l : Layout) (size : ℕ) → fits l size ≡ true → (l.low % 2 ≡ 0) × (l.high % 2 ≡ 0) × (l.text ≤ 65280)
+pub fitting : (l : Layout) (size : ℕ) → fits l size ≡ true → (l.service.low % 2 ≡ 0) × (l.service.high % 2 ≡ 0) × (l.text ≤ 65280)
 fitting l size h = (grind (arith, nat_tests), grind (arith, nat_tests), grind (arith, nat_tests))
 
 never : (p : Bool) → (p && false) ≡ false

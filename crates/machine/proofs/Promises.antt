@@ -57,12 +57,12 @@ module _ (s : State) (b : ℕ → ℕ) (o : ℕ → Bool) where
       (λ d p due at plan e. text_by d p plan e)
       (λ d f due why e a h. refl)
 
-  range_by : s.layout.high % 2 ≡ 0 → (d : Side) (p : Plan) → check.planned s d (word_at b s.counter) ≡ Ok p → run_by d ≡ run_by side.Service
+  range_by : s.layout.service.high % 2 ≡ 0 → (d : Side) (p : Plan) → check.planned s d (word_at b s.counter) ≡ Ok p → run_by d ≡ run_by side.Service
       → (a : ℕ) → inside s.layout a ≡ false → step.bytes_after b o p.effect a ≡ b a
   range_by top (side.Own) p plan e = let z : ◌≡◌ {A = ℕ} 0 1 = cc in absurd (omega arith)
   range_by top (side.Service) p plan e = let l = lawful_word s side.Service (word_at b s.counter) p plan in service_range b o s.layout top p.effect l.even l.memory l.allowed
 
-  range_stays : s.layout.high % 2 ≡ 0 → (step.stepped s b o).answer ≡ Ok (made.Made side.Service) → (a : ℕ) → inside s.layout a ≡ false → (step.stepped s b o).bytes a ≡ b a
+  range_stays : s.layout.service.high % 2 ≡ 0 → (step.stepped s b o).answer ≡ Ok (made.Made side.Service) → (a : ℕ) → inside s.layout a ≡ false → (step.stepped s b o).bytes a ≡ b a
   range_stays top =
       ways s b o (λ x. x.answer ≡ Ok (made.Made side.Service) → (a : ℕ) → inside s.layout a ≡ false → x.bytes a ≡ b a)
       (λ n ev en er e a h. refl)
@@ -108,7 +108,7 @@ module _ (r : State) (b : ℕ → ℕ) (o : ℕ → Bool) (takes : Takes r) wher
     outside_after : (p : Plan) → check.planned s side.Service (word_at c s.counter) ≡ Ok p → (a : ℕ) → inside r.layout a ≡ false → step.bytes_after c o p.effect a ≡ b a
     outside_after p plan a h =
         let l = lawful_word s side.Service (word_at c s.counter) p plan in
-        let top : s.layout.high % 2 ≡ 0 = ap (λ (x : Layout). x.high % 2) lent.layout ∙ takes.formed.upper in
+        let top : s.layout.service.high % 2 ≡ 0 = ap (λ (x : Layout). x.service.high % 2) lent.layout ∙ takes.formed.upper in
         service_range c o s.layout top p.effect l.even l.memory l.allowed a (ap (λ (x : Layout). inside x a) lent.layout ∙ h) ∙ lent.outside a h
 
     service_after : (p : Plan) → (step.after s c side.Service p p.effect).service ≡ cond p.closes None s.service
@@ -178,7 +178,7 @@ module _ (r : State) (b : ℕ → ℕ) (o : ℕ → Bool) (takes : Takes r) wher
   given n s c serving = given_after s c (lent_by n s c serving)
 
 -- every law of a step, from what its contract says of it
-pub step_laws : (s : State) (m : Meaning) (answer : Result Step StepRefusal) (t : State) (u : Meaning) → s.layout.high % 2 ≡ 0
+pub step_laws : (s : State) (m : Meaning) (answer : Result Step StepRefusal) (t : State) (u : Meaning) → s.layout.service.high % 2 ≡ 0
     → step.Steps s m answer t u → StepLaws s m answer t u
 step_laws s m answer t u top exact =
     let o = m.mark in

@@ -39,7 +39,7 @@ module _ (b : ℕ → ℕ) (o : ℕ → Bool) (l : Layout) where
       apart w a v x (below_io a io) (grind (arith, nat_tests)) (grind (arith, nat_tests))
 
   -- service words leave every byte outside their range
-  pub service_range : l.high % 2 ≡ 0 → (e : Effect) → is_odd e ≡ false → is_io e ≡ false → trespasses l side.Service e ≡ false
+  pub service_range : l.service.high % 2 ≡ 0 → (e : Effect) → is_odd e ≡ false → is_io e ≡ false → trespasses l side.Service e ≡ false
       → (x : ℕ) → inside l x ≡ false → bytes_after b o e x ≡ b x
   service_range top (effect.Put value next) odd io ok x h = refl
   service_range top (effect.Load w a) odd io ok x h = refl

@@ -23,8 +23,8 @@ pub record WellFormed (s : State) : Type 0 where
   pub sixteen : length s.registers ≡ 16
   pub even : s.counter % 2 ≡ 0
   pub small : s.counter < 65536
-  pub lower : s.layout.low % 2 ≡ 0
-  pub upper : s.layout.high % 2 ≡ 0
+  pub lower : s.layout.service.low % 2 ≡ 0
+  pub upper : s.layout.service.high % 2 ≡ 0
 
 -- a request is taken here
 pub record Takes (s : State) : Type 0 where

@@ -6,6 +6,7 @@ use Rattle.operations.specs.declared.values.Effect.{Effect}
 use Rattle.operations.specs.declared.values.Effect.TheVariants as effect
 use Rattle.machine.specs.declared.states.Side.{Side}
 use Rattle.machine.specs.declared.states.Side.TheVariants as side
+use Rattle.machine.specs.declared.states.ServiceRange.{ServiceRange}
 use Rattle.machine.specs.declared.states.Layout.{Layout}
 
 -- a step of the program's own
@@ -13,9 +14,13 @@ abbrev pub is_own : Side → Bool
 is_own (side.Own) = true
 is_own (side.Service) = false
 
+-- from the low end up to, not including, the high end
+abbrev pub contains : ServiceRange → ℕ → Bool
+contains r a = nat_le r.low a && nat_lt a r.high
+
 -- in the service range
 abbrev pub inside : Layout → ℕ → Bool
-inside l a = nat_le l.low a && nat_lt a l.high
+inside l a = contains l.service a
 
 -- own words stand in text outside the service range, service words in it
 abbrev pub placed : Layout → Side → ℕ → Bool

@@ -23,18 +23,18 @@ fresh l = record {
   layout = l;
 }
 
--- no text
-abbrev pub unloaded : Layout
-unloaded = record { text = 0; low = 0; high = 0 }
-
 -- a text length and a service range
 abbrev pub layout : ℕ → ℕ → ℕ → Layout
-layout text lo hi = record { text = text; low = lo; high = hi }
+layout text lo hi = record { text = text; service = record { low = lo; high = hi } }
+
+-- no text and no service range
+abbrev pub unloaded : Layout
+unloaded = layout 0 0 0
 
 -- the range has even ends, begins at 2 to 16 and ends at 18 to the end of text
 abbrev pub range_fits : Layout → Bool
 range_fits l =
-    (l.low % 2 == 0) && (l.high % 2 == 0 && (nat_le 2 l.low && (nat_le l.low 16 && (nat_le 18 l.high && nat_le l.high l.text))))
+    (l.service.low % 2 == 0) && (l.service.high % 2 == 0 && (nat_le 2 l.service.low && (nat_le l.service.low 16 && (nat_le 18 l.service.high && nat_le l.service.high l.text))))
 
 -- text is a multiple of 16 bytes, within an image of at most 65,280 bytes, and the range fits
 abbrev pub fits : Layout → ℕ → Bool

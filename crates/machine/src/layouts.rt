@@ -2,34 +2,34 @@
 ghost use Rattle.std.specs.Prelude.{◌≡◌};
 ghost use Rattle.machine.specs.Layouts as spec;
 
-use crate::states::{Layout, Side};
+use crate::states::{Layout, ServiceRange, Side};
 use operations::{Effect, Width};
 
 impl Side {
     pub(crate) fn is_own(self) -> bool
         ensures { result ≡ spec.is_own self }
     {
-        match self {
-            Side::Own => true,
-            Side::Service => false,
-        }
+        matches!(self, Side::Own)
+    }
+}
+
+impl ServiceRange {
+    // Whether the address is in the range.
+    pub fn contains(self, address: u16) -> bool
+        ensures { result ≡ spec.contains self address }
+    {
+        self.low <= address && address < self.high
     }
 }
 
 impl Layout {
-    pub(crate) fn serves(self, address: u16) -> bool
-        ensures { result ≡ spec.inside self address }
-    {
-        self.low <= address && address < self.high
-    }
-
     // Whether a word of this side may run at the address.
     pub(crate) fn places(self, side: Side, address: u16) -> bool
         ensures { result ≡ spec.placed self side address }
     {
         match side {
-            Side::Own => address < self.text && !self.serves(address),
-            Side::Service => self.serves(address),
+            Side::Own => address < self.text && !self.service.contains(address),
+            Side::Service => self.service.contains(address),
         }
     }
 
@@ -38,10 +38,10 @@ impl Layout {
         ensures { result ≡ spec.trespasses self side effect }
     {
         match (effect, side) {
-            (Effect::Load { address, .. }, Side::Own) => self.serves(address),
-            (Effect::Store { address, .. }, Side::Own) => self.serves(address)
+            (Effect::Load { address, .. }, Side::Own) => self.service.contains(address),
+            (Effect::Store { address, .. }, Side::Own) => self.service.contains(address)
                 || address < self.text,
-            (Effect::Store { address, .. }, Side::Service) => !self.serves(address),
+            (Effect::Store { address, .. }, Side::Service) => !self.service.contains(address),
             _ => false,
         }
     }
@@ -51,26 +51,19 @@ impl Layout {
 pub(crate) fn is_odd(effect: Effect) -> bool
     ensures { result ≡ spec.is_odd effect }
 {
-    match effect {
-        Effect::Load {
-            width: Width::Word,
-            address,
-        } => address % 2 == 1,
-        Effect::Store {
-            width: Width::Word,
-            address,
-            ..
-        } => address % 2 == 1,
-        _ => false,
-    }
+    matches!(
+        effect,
+        Effect::Load { width: Width::Word, address }
+            | Effect::Store { width: Width::Word, address, .. } if address % 2 == 1
+    )
 }
 
 // Whether the effect is an access to the last 256 addresses.
 pub(crate) fn is_io(effect: Effect) -> bool
     ensures { result ≡ spec.is_io effect }
 {
-    match effect {
-        Effect::Load { address, .. } | Effect::Store { address, .. } => address >= 0xFF00,
-        Effect::Put { .. } | Effect::Hold { .. } => false,
-    }
+    matches!(
+        effect,
+        Effect::Load { address, .. } | Effect::Store { address, .. } if address >= 0xFF00
+    )
 }

@@ -14,4 +14,4 @@ mod steps;
 
 pub use answers::{Run, Step, StepRefusal, Tally};
 pub use body::Core;
-pub use states::{Layout, Side};
+pub use states::{Layout, ServiceRange, Side};

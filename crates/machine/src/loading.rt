@@ -3,7 +3,7 @@ ghost use Rattle.std.specs.Prelude.{◌≡◌};
 ghost use Rattle.machine.specs.Loads as spec;
 
 use crate::body::Core;
-use crate::states::{Layout, State};
+use crate::states::{Layout, ServiceRange, State};
 use isa::Refusal;
 use memory::{Memory, store_image};
 use operations::Forerunner;
@@ -26,22 +26,28 @@ fn fresh(layout: Layout) -> State
     }
 }
 
-impl Layout {
-    fn range_fits(self) -> bool
-        ensures { result ≡ spec.range_fits self }
+impl ServiceRange {
+    // Both ends are even, the range has the address of the first service word, and it ends within the text.
+    fn fits(self, text: u16) -> bool
+        ensures { result ≡ spec.range_fits (spec.layout text self.low self.high) }
     {
         self.low % 2 == 0
             && self.high % 2 == 0
             && 2 <= self.low
             && self.low <= 16
             && 18 <= self.high
-            && self.high <= self.text
+            && self.high <= text
     }
+}
 
+impl Layout {
     fn accepts(self, size: usize) -> bool
         ensures { result ≡ spec.fits self size }
     {
-        self.text % 16 == 0 && self.text as usize <= size && size <= 65280 && self.range_fits()
+        self.text % 16 == 0
+            && self.text as usize <= size
+            && size <= 65280
+            && self.service.fits(self.text)
     }
 }
 
@@ -62,11 +68,7 @@ impl Core {
         ensures { result.state ≡ spec.fresh spec.unloaded }
     {
         Core {
-            state: fresh(Layout {
-                text: 0,
-                low: 0,
-                high: 0,
-            }),
+            state: fresh(Layout::default()),
         }
     }
 
@@ -75,19 +77,12 @@ impl Core {
         &mut self,
         memory: &mut M,
         image: &[u8],
-        text: u16,
-        lo: u16,
-        hi: u16,
+        layout: Layout,
     ) -> Result<(), Refusal>
-        ensures exact { spec.Loads (spec.layout text lo hi) image.now self.old.state (M.Memory.means memory.old)
+        ensures exact { spec.Loads layout image.now self.old.state (M.Memory.means memory.old)
             result self.new.state (M.Memory.means memory.new) }
         ensures lent { M.Memory.loan memory.new ≡ M.Memory.loan memory.old }
     {
-        let layout = Layout {
-            text,
-            low: lo,
-            high: hi,
-        };
         if !layout.accepts(image.len()) {
             return Err(Refusal::Plan);
         }

@@ -24,6 +24,13 @@ impl Core {
         self.state.layout
     }
 
+    // What the sixteen registers hold.
+    pub fn registers(&self) -> [u16; 16]
+        ensures { result ≡ self.now.state.registers }
+    {
+        self.state.registers
+    }
+
     // Whether a service is open.
     pub fn is_serving(&self) -> bool
         ensures { result ≡ not (closed self.now.state.service) }

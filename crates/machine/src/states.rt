@@ -9,12 +9,18 @@ pub enum Side {
     Service,
 }
 
-// The text length, and the service range from low up to, not including, high.
-#[derive(Clone, Copy, PartialEq, Eq)]
-pub struct Layout {
-    pub text: u16,
+// Where the service's words stand: from low up to, not including, high.
+#[derive(Clone, Copy, PartialEq, Eq, Default)]
+pub struct ServiceRange {
     pub low: u16,
     pub high: u16,
+}
+
+// The text length and the service range.
+#[derive(Clone, Copy, PartialEq, Eq, Default)]
+pub struct Layout {
+    pub text: u16,
+    pub service: ServiceRange,
 }
 
 // `made` and `served` are the registers that the last own word and the last service word wrote, 0 for none.

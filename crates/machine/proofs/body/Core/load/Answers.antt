@@ -1,11 +1,10 @@
 use Rattle.std.proofs.Common.{length, sym, refl, ◌∙◌, arith}
-use Rattle.machine.specs.Loads.{layout}
 use Rattle.machine.proofs.Fitting.{fitting}
 use Rattle.machine.proofs.body.Core.load.Goals as goal
 
 pub invariant_of-self : goal.invariant_of-self
 invariant_of-self g c =
-    let fits = fitting (layout c.args.text c.args.lo c.args.hi) (length c.args.image.now) (sym c.accepts.ensures ∙ c.if-not-accepts.false) in
+    let fits = fitting c.args.layout (length c.args.image.now) (sym c.accepts.ensures ∙ c.if-not-accepts.false) in
     simp c.fresh-self.ensures (record {
       zero = refl;
       even = refl;

@@ -22,8 +22,8 @@ invariant_of-self g c =
     let kept = sound core.state byte side word plan core.zero core.even stood.1 in
     let waits = kept_after core.state byte side c.requires (below_text core.state side core.below stood.0) (core.bounded, core.held, core.still) plan word stood.1 in
     let same = same_layout core.state byte side plan plan.effect in
-    let lower = ap (λ (l : Layout). l.low % 2) same ∙ core.lower in
-    let upper = ap (λ (l : Layout). l.high % 2) same ∙ core.upper in
+    let lower = ap (λ (l : Layout). l.service.low % 2) same ∙ core.lower in
+    let upper = ap (λ (l : Layout). l.service.high % 2) same ∙ core.upper in
     let below = subst (λ (l : Layout). l.text ≤ 65280) (sym same) core.below in
     simp c.apply.ensures.state (record {
       zero = kept.0;
