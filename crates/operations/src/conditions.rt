@@ -8,14 +8,13 @@ use isa::Condition;
 fn overflows(a: u16, b: u16) -> bool
     ensures { result ≡ spec.overflows a b }
 {
-    let sum = i32::from(a.cast_signed()) + i32::from(b.cast_signed());
-    sum < -32768 || 32767 < sum
+    a.cast_signed().checked_add(b.cast_signed()).is_none()
 }
 
 fn carries(a: u16, b: u16) -> bool
     ensures { result ≡ spec.sum_carries a b }
 {
-    u32::from(a) + u32::from(b) > 0xFFFF
+    a.checked_add(b).is_none()
 }
 
 // Signed 16-bit comparison.

@@ -9,58 +9,36 @@ impl Forerunner {
     fn is_sum(self) -> bool
         ensures { result ≡ spec.is_sum self }
     {
-        match self {
-            Forerunner::Sum { .. } => true,
-            Forerunner::Nothing | Forerunner::Shift { .. } => false,
-        }
+        matches!(self, Forerunner::Sum { .. })
     }
 
     fn is_shift(self) -> bool
         ensures { result ≡ spec.is_shift self }
     {
-        match self {
-            Forerunner::Shift { .. } => true,
-            Forerunner::Nothing | Forerunner::Sum { .. } => false,
-        }
+        matches!(self, Forerunner::Shift { .. })
     }
 
     // The carry or borrow that the adc and sbc forms use.
     pub(crate) fn carry(self) -> bool
         ensures { result ≡ spec.carry_of self }
     {
-        match self {
-            Forerunner::Sum { carry, .. } => carry,
-            Forerunner::Nothing | Forerunner::Shift { .. } => false,
-        }
-    }
-
-    // The first operand that branches compare.
-    pub(crate) fn first(self) -> u16
-        ensures { result ≡ spec.first_of self }
-    {
-        match self {
-            Forerunner::Sum { a, .. } => a,
-            Forerunner::Nothing | Forerunner::Shift { .. } => 0,
-        }
-    }
-
-    // The second operand that branches compare, as it was added.
-    pub(crate) fn second(self) -> u16
-        ensures { result ≡ spec.second_of self }
-    {
-        match self {
-            Forerunner::Sum { b, .. } => b,
-            Forerunner::Nothing | Forerunner::Shift { .. } => 0,
-        }
+        matches!(self, Forerunner::Sum { carry: true, .. })
     }
 
     // The bit that the extended shifts move in.
     pub(crate) fn bit(self) -> bool
         ensures { result ≡ spec.bit_of self }
     {
+        matches!(self, Forerunner::Shift { bit: true })
+    }
+
+    // The operands that branches compare, the second as it was added.
+    pub(crate) fn compared(self) -> (u16, u16)
+        ensures { result ≡ (spec.first_of self, spec.second_of self) }
+    {
         match self {
-            Forerunner::Shift { bit } => bit,
-            Forerunner::Nothing | Forerunner::Sum { .. } => false,
+            Forerunner::Sum { a, b, .. } => (a, b),
+            Forerunner::Nothing | Forerunner::Shift { .. } => (0, 0),
         }
     }
 
@@ -72,8 +50,8 @@ impl Forerunner {
             Instruction::Register {
                 function: RegisterFunction::Adc | RegisterFunction::Sbc,
                 ..
-            } => !self.is_sum(),
-            Instruction::Immediate {
+            }
+            | Instruction::Immediate {
                 function: ImmediateFunction::Adci | ImmediateFunction::Sbci,
                 ..
             } => !self.is_sum(),

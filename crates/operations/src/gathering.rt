@@ -26,20 +26,15 @@ fn base(instruction: Instruction) -> u8
 fn register(registers: &[u16; 16], number: u8) -> u16
     ensures { result ≡ slice_index registers.now number }
 {
-    if number < 16 {
-        registers[number as usize]
-    } else {
-        0
-    }
+    registers.get(usize::from(number)).copied().unwrap_or(0)
 }
 
 fn immediate(instruction: Instruction, prefix: Option<u16>) -> u16
     ensures { result ≡ spec.immediate_by (immediate_field instruction) prefix }
 {
-    match instruction.immediate_field() {
-        Some(field) => field.value(prefix),
-        None => 0,
-    }
+    instruction
+        .immediate_field()
+        .map_or(0, |field| field.value(prefix))
 }
 
 // The operands of an instruction that is about to run.
@@ -57,9 +52,6 @@ pub fn gather(
         right: register(registers, instruction.late()),
         immediate: immediate(instruction, prefix),
         counter,
-        carry: forerunner.carry(),
-        a: forerunner.first(),
-        b: forerunner.second(),
-        bit: forerunner.bit(),
+        forerunner,
     }
 }

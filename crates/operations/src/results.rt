@@ -1,7 +1,6 @@
 // What each operation does.
 ghost use Rattle.std.specs.Prelude.{◌≡◌};
 ghost use Rattle.operations.specs.Arithmetic.{plus, minus, one_if};
-ghost use Rattle.operations.specs.declared.values.Effect.TheVariants as effect;
 ghost use Rattle.operations.specs.Operations as spec;
 
 use crate::conditions::holds;
@@ -34,28 +33,6 @@ fn halved_under(x: u16, bit: bool) -> u16
     x / 2 + u16::from(bit) * 0x8000
 }
 
-fn put(value: u16, next: u16) -> Effect
-    ensures { result ≡ effect.Put value next }
-{
-    Effect::Put { value, next }
-}
-
-fn load(width: Width, address: u16) -> Effect
-    ensures { result ≡ effect.Load width address }
-{
-    Effect::Load { width, address }
-}
-
-fn store(width: Width, address: u16, value: u16) -> Effect
-    ensures { result ≡ effect.Store width address value }
-{
-    Effect::Store {
-        width,
-        address,
-        value,
-    }
-}
-
 impl Operands {
     fn register_value(self, function: RegisterFunction) -> u16
         ensures { result ≡ spec.register_value function self }
@@ -65,8 +42,8 @@ impl Operands {
             RegisterFunction::Or => self.left | self.right,
             RegisterFunction::Xor => self.left ^ self.right,
             RegisterFunction::Andn => self.left & !self.right,
-            RegisterFunction::Adc => plus_carry(self.left, self.right, self.carry),
-            RegisterFunction::Sbc => minus_borrow(self.left, self.right, self.carry),
+            RegisterFunction::Adc => plus_carry(self.left, self.right, self.forerunner.carry()),
+            RegisterFunction::Sbc => minus_borrow(self.left, self.right, self.forerunner.carry()),
         }
     }
 
@@ -78,20 +55,29 @@ impl Operands {
             ImmediateFunction::Ori => self.left | self.immediate,
             ImmediateFunction::Xori => self.left ^ self.immediate,
             ImmediateFunction::Andni => self.left & !self.immediate,
-            ImmediateFunction::Adci => plus_carry(self.left, self.immediate, self.carry),
-            ImmediateFunction::Sbci => minus_borrow(self.left, self.immediate, self.carry),
+            ImmediateFunction::Adci => plus_carry(
+                self.left,
+                self.immediate,
+                self.forerunner.carry(),
+            ),
+            ImmediateFunction::Sbci => minus_borrow(
+                self.left,
+                self.immediate,
+                self.forerunner.carry(),
+            ),
             ImmediateFunction::Srli => self.left >> 1,
             ImmediateFunction::Srai => halved(self.left),
             ImmediateFunction::Slli => self.left.wrapping_add(self.left),
-            ImmediateFunction::Srxi => halved_under(self.left, self.bit),
-            ImmediateFunction::Slxi => plus_carry(self.left, self.left, self.bit),
+            ImmediateFunction::Srxi => halved_under(self.left, self.forerunner.bit()),
+            ImmediateFunction::Slxi => plus_carry(self.left, self.left, self.forerunner.bit()),
         }
     }
 
     fn branched(self, condition: Condition, displacement: u8) -> u16
         ensures { result ≡ spec.branched condition displacement self }
     {
-        if holds(condition, self.a, self.b) {
+        let (a, b) = self.forerunner.compared();
+        if holds(condition, a, b) {
             branch_target(self.counter, displacement)
         } else {
             self.counter.wrapping_add(2)
@@ -105,21 +91,59 @@ impl Operands {
         let next = self.counter.wrapping_add(2);
         let address = self.left.wrapping_add(self.immediate);
         match instruction {
-            Instruction::Add { .. } => put(self.left.wrapping_add(self.right), next),
-            Instruction::Sub { .. } => put(self.left.wrapping_sub(self.right), next),
-            Instruction::Addi { .. } => put(address, next),
-            Instruction::Register { function, .. } => put(self.register_value(function), next),
-            Instruction::Immediate { function, .. } => put(self.immediate_value(function), next),
-            Instruction::Lw { .. } => load(Width::Word, address),
-            Instruction::Lb { .. } => load(Width::Byte, address),
-            Instruction::Sw { .. } => store(Width::Word, address, self.right),
-            Instruction::Sb { .. } => store(Width::Byte, address, self.right),
-            Instruction::Jal { .. } => put(next, address / 2 * 2),
+            Instruction::Add { .. } => Effect::Put {
+                value: self.left.wrapping_add(self.right),
+                next,
+            },
+            Instruction::Sub { .. } => Effect::Put {
+                value: self.left.wrapping_sub(self.right),
+                next,
+            },
+            Instruction::Addi { .. } => Effect::Put {
+                value: address,
+                next,
+            },
+            Instruction::Register { function, .. } => Effect::Put {
+                value: self.register_value(function),
+                next,
+            },
+            Instruction::Immediate { function, .. } => Effect::Put {
+                value: self.immediate_value(function),
+                next,
+            },
+            Instruction::Lw { .. } => Effect::Load {
+                width: Width::Word,
+                address,
+            },
+            Instruction::Lb { .. } => Effect::Load {
+                width: Width::Byte,
+                address,
+            },
+            Instruction::Sw { .. } => Effect::Store {
+                width: Width::Word,
+                address,
+                value: self.right,
+            },
+            Instruction::Sb { .. } => Effect::Store {
+                width: Width::Byte,
+                address,
+                value: self.right,
+            },
+            Instruction::Jal { .. } => Effect::Put {
+                value: next,
+                next: address / 2 * 2,
+            },
             Instruction::Branch {
                 condition,
                 displacement,
-            } => put(0, self.branched(condition, displacement)),
-            Instruction::Call { imm12 } => put(next, imm12.wrapping_mul(16)),
+            } => Effect::Put {
+                value: 0,
+                next: self.branched(condition, displacement),
+            },
+            Instruction::Call { imm12 } => Effect::Put {
+                value: next,
+                next: imm12.wrapping_mul(16),
+            },
             Instruction::Imm { imm12 } => Effect::Hold { prefix: imm12 },
         }
     }
@@ -128,16 +152,16 @@ impl Operands {
     pub fn miscounts(self, instruction: Instruction) -> bool
         ensures { result ≡ spec.miscounts instruction self }
     {
-        match instruction {
+        matches!(
+            instruction,
             Instruction::Immediate {
                 function: ImmediateFunction::Srli
-                | ImmediateFunction::Srai
-                | ImmediateFunction::Slli
-                | ImmediateFunction::Srxi
-                | ImmediateFunction::Slxi,
+                    | ImmediateFunction::Srai
+                    | ImmediateFunction::Slli
+                    | ImmediateFunction::Srxi
+                    | ImmediateFunction::Slxi,
                 ..
-            } => self.immediate != 1,
-            _ => false,
-        }
+            }
+        ) && self.immediate != 1
     }
 }

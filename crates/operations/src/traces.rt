@@ -22,7 +22,7 @@ fn difference_left(a: u16, b: u16, borrow: bool) -> Option<Forerunner>
 {
     Some(Forerunner::Sum {
         a,
-        b: 0u16.wrapping_sub(b),
+        b: b.wrapping_neg(),
         carry: u32::from(a) < u32::from(b) + u32::from(borrow),
     })
 }
@@ -44,8 +44,12 @@ impl Operands {
         ensures { result ≡ spec.register_leaves function self }
     {
         match function {
-            RegisterFunction::Adc => sum_left(self.left, self.right, self.carry),
-            RegisterFunction::Sbc => difference_left(self.left, self.right, self.carry),
+            RegisterFunction::Adc => sum_left(self.left, self.right, self.forerunner.carry()),
+            RegisterFunction::Sbc => difference_left(
+                self.left,
+                self.right,
+                self.forerunner.carry(),
+            ),
             _ => Some(Forerunner::Nothing),
         }
     }
@@ -54,8 +58,12 @@ impl Operands {
         ensures { result ≡ spec.immediate_leaves function self }
     {
         match function {
-            ImmediateFunction::Adci => sum_left(self.left, self.immediate, self.carry),
-            ImmediateFunction::Sbci => difference_left(self.left, self.immediate, self.carry),
+            ImmediateFunction::Adci => sum_left(self.left, self.immediate, self.forerunner.carry()),
+            ImmediateFunction::Sbci => difference_left(
+                self.left,
+                self.immediate,
+                self.forerunner.carry(),
+            ),
             ImmediateFunction::Srli | ImmediateFunction::Srai | ImmediateFunction::Srxi => lowest(
                 self.left,
             ),

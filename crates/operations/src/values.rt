@@ -1,34 +1,31 @@
 // The plain values between an instruction and the core.
 
 // What the word before left for the next: the operands a and b of a sum with its carry or borrow, or the bit that a shift moved out.
-#[derive(Clone, Copy)]
+#[derive(Clone, Copy, PartialEq, Eq)]
 pub enum Forerunner {
     Nothing,
     Sum { a: u16, b: u16, carry: bool },
     Shift { bit: bool },
 }
 
-// All that an instruction works with: two registers, its immediate, the counter, and what the forerunner has for it.
-#[derive(Clone, Copy)]
+// All that an instruction works with: two registers, its immediate, the counter, and what the word before left.
+#[derive(Clone, Copy, PartialEq, Eq)]
 pub struct Operands {
     pub left: u16,
     pub right: u16,
     pub immediate: u16,
     pub counter: u16,
-    pub carry: bool,
-    pub a: u16,
-    pub b: u16,
-    pub bit: bool,
+    pub forerunner: Forerunner,
 }
 
-#[derive(Clone, Copy)]
+#[derive(Clone, Copy, PartialEq, Eq)]
 pub enum Width {
     Byte,
     Word,
 }
 
 // What an instruction does to the core and the memory.
-#[derive(Clone, Copy)]
+#[derive(Clone, Copy, PartialEq, Eq)]
 pub enum Effect {
     // A value for the result's register, and the counter after.
     Put {
