@@ -1,5 +1,5 @@
 -- What a word that passed its checks keeps to.
-use Rattle.std.proofs.Common.{◌≡◌, ℕ, zero, suc, ◌+◌, ◌*◌, ◌%◌, ◌<◌, Bool, true, false, cond, ◌&&◌, eqb, ltb, ◌≢◌, List, get_or, Some, None, Ok, Err, Option, Result, sym, refl, subst, arith, get_or-set_other}
+use Rattle.std.proofs.Common.{◌≡◌, ℕ, zero, suc, ◌+◌, ◌*◌, ◌%◌, ◌<◌, Bool, true, false, cond, ◌&&◌, eqb, ltb, ◌≢◌, List, get_or, Ok, Err, Result, sym, refl, ap, ◌∙◌, subst, arith, get_or-set_other}
 use Rattle.std.proofs.lemmas.Bool.Decides.{nat_tests}
 use Rattle.isa.specs.declared.refusals.Refusal.{Refusal}
 use Rattle.isa.specs.declared.instructions.Instruction.{Instruction}
@@ -20,6 +20,7 @@ use Rattle.machine.specs.declared.states.Plan.{Plan}
 use Rattle.machine.specs.Layouts.{is_own, is_odd, is_io, trespasses}
 use Rattle.machine.specs.Checks as check
 use Rattle.machine.specs.Steps as step
+use Rattle.machine.proofs.Ways.{settles}
 
 -- every check of a planned word, and where the plan's parts come from
 pub record Lawful (s : State) (d : Side) (c : Bool) (r : Result Instruction Refusal) (p : Plan) : Type 0 where
@@ -37,19 +38,19 @@ pub record Lawful (s : State) (d : Side) (c : Bool) (r : Result Instruction Refu
   pub closes : p.closes ≡ c
 
 pub clash : {A : Type 0} → true ≡ false → A
-clash h = let z : ◌≡◌ {A = ℕ} 0 1 = cc in absurd (omega arith)
+clash h = absurd cc
 
 -- no check of a list failed
-pub passed : (b : Bool) (e : Refusal) (r : Option Refusal) → cond b (Some e) r ≡ None → (b ≡ false) × (r ≡ None)
-passed true e r h = let z : ◌≡◌ {A = ℕ} 0 1 = cc in absurd (omega arith)
+pub passed : (b : Bool) (e : Refusal) (r : Result Unit Refusal) → cond b (Err e) r ≡ Ok tt → (b ≡ false) × (r ≡ Ok tt)
+passed true e r h = absurd cc
 passed false e r h = (refl, h)
 
-made : (f : Option Refusal) (q p : Plan) → check.unless_refused f q ≡ Ok p → (f ≡ None) × (q ≡ p)
-made None q p h = (refl, cc)
-made (Some x) q p h = let z : ◌≡◌ {A = ℕ} 0 1 = cc in absurd (omega arith)
+made : (f : Result Unit Refusal) (q p : Plan) → check.unless_refused f q ≡ Ok p → (f ≡ Ok tt) × (q ≡ p)
+made (Ok done) q p h = (refl, cc)
+made (Err x) q p h = absurd cc
 
 pub lawful : (s : State) (d : Side) (c : Bool) (r : Result Instruction Refusal) (p : Plan) → check.plan_of s d c r ≡ Ok p → Lawful s d c r p
-lawful s d c (Err e) p h = let z : ◌≡◌ {A = ℕ} 0 1 = cc in absurd (omega arith)
+lawful s d c (Err e) p h = absurd cc
 lawful s d c (Ok i) p h =
     let m = made _ _ p h in
     let c19 = passed _ _ _ m.0 in
@@ -125,21 +126,13 @@ even_after s b d p (effect.Load w a) h k = omega arith
 even_after s b d p (effect.Store w a v) h k = omega arith
 even_after s b d p (effect.Hold x) h k = omega arith
 
-zero_after : (s : State) (b : ℕ → ℕ) (d : Side) (p : Plan) (e : Effect) → get_or s.registers 0 0 ≡ 0 → get_or (step.after s b d p e).registers 0 0 ≡ 0
-zero_after s b d p (effect.Put value next) h = zero_written s.registers (result p.instruction) value h
-zero_after s b d p (effect.Load w a) h = zero_written s.registers (result p.instruction) (step.loaded b w a) h
-zero_after s b d p (effect.Store w a v) h = zero_written s.registers (result p.instruction) 0 h
-zero_after s b d p (effect.Hold x) h = zero_written s.registers (result p.instruction) 0 h
-
 pub sound : (s : State) (b : ℕ → ℕ) (d : Side) (w : ℕ) (p : Plan) → get_or s.registers 0 0 ≡ 0 → s.counter % 2 ≡ 0 → check.planned s d w ≡ Ok p
     → (get_or (step.after s b d p p.effect).registers 0 0 ≡ 0) × ((step.after s b d p p.effect).counter % 2 ≡ 0)
 sound s b d w p z e h =
     let l = lawful_word s d w p h in
-    (zero_after s b d p p.effect z, even_after s b d p p.effect e (subst EvenNext (sym l.effect) (even_next p.instruction (check.operands s p.instruction) e)))
+    let done = settles s b d p p.effect in
+    (ap (λ (t : State). get_or t.registers 0 0) done.is ∙ zero_written s.registers (result p.instruction) done.value z, even_after s b d p p.effect e (subst EvenNext (sym l.effect) (even_next p.instruction (check.operands s p.instruction) e)))
 
 -- a word never changes the layout
 pub same_layout : (s : State) (b : ℕ → ℕ) (d : Side) (p : Plan) (e : Effect) → (step.after s b d p e).layout ≡ s.layout
-same_layout s b d p (effect.Put value next) = refl
-same_layout s b d p (effect.Load w a) = refl
-same_layout s b d p (effect.Store w a v) = refl
-same_layout s b d p (effect.Hold x) = refl
+same_layout s b d p e = ap (λ (t : State). t.layout) (settles s b d p e).is

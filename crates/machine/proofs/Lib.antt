@@ -9,4 +9,3 @@ pub mod Closing
 pub mod Promises
 pub mod Repeating
 pub mod Owing
-pub mod Due

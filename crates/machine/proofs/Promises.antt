@@ -30,25 +30,25 @@ pub untaken : (s : State) (b : ℕ → ℕ) (o : ℕ → Bool) → s.interruptib
 untaken s b o h wait =
     ways s b o (λ x. x.answer ≡ Ok (made.Taken wait) → ⊥)
     (λ n ev en er e. clash (sym er ∙ h))
-    (λ d p due at plan e. let z : ◌≡◌ {A = ℕ} 0 1 = cc in omega arith)
-    (λ d f due why e. let z : ◌≡◌ {A = ℕ} 0 1 = cc in omega arith)
+    (λ d p due at plan e. absurd cc)
+    (λ d f due why e. absurd cc)
 
 module _ (s : State) (b : ℕ → ℕ) (o : ℕ → Bool) where
   -- after an interlocked word the core is not interruptible
   held : (d : Side) → (step.stepped s b o).answer ≡ Ok (made.Made d) → reads_interlocked (word_at b s.counter) ≡ true → (step.stepped s b o).state.interruptible ≡ false
   held d =
       ways s b o (λ x. x.answer ≡ Ok (made.Made d) → reads_interlocked (word_at b s.counter) ≡ true → x.state.interruptible ≡ false)
-      (λ n ev en er e k. let z : ◌≡◌ {A = ℕ} 0 1 = cc in absurd (omega arith))
+      (λ n ev en er e k. absurd cc)
       (λ d p due at plan e k.
       let l = lawful_word s d (word_at b s.counter) p plan in
       let i : interlocked p.instruction ≡ true = sym (ap interlocked_reading l.read) ∙ k in
       ap (λ (t : State). t.interruptible) (settles s b d p p.effect).is ∙ ap not i)
-      (λ d f due why e k. let z : ◌≡◌ {A = ℕ} 0 1 = cc in absurd (omega arith))
+      (λ d f due why e k. absurd cc)
 
   text_by : (d : Side) (p : Plan) → check.planned s d (word_at b s.counter) ≡ Ok p → run_by d ≡ run_by side.Own
       → (a : ℕ) → a < s.layout.text → step.bytes_after b o p.effect a ≡ b a
   text_by (side.Own) p plan e = let l = lawful_word s side.Own (word_at b s.counter) p plan in own_text b o s.layout p.effect l.memory l.allowed
-  text_by (side.Service) p plan e = let z : ◌≡◌ {A = ℕ} 0 1 = cc in absurd (omega arith)
+  text_by (side.Service) p plan e = absurd cc
 
   text_stays : (step.stepped s b o).answer ≡ Ok (made.Made side.Own) → (a : ℕ) → a < s.layout.text → (step.stepped s b o).bytes a ≡ b a
   text_stays =
@@ -59,7 +59,7 @@ module _ (s : State) (b : ℕ → ℕ) (o : ℕ → Bool) where
 
   range_by : s.layout.service.high % 2 ≡ 0 → (d : Side) (p : Plan) → check.planned s d (word_at b s.counter) ≡ Ok p → run_by d ≡ run_by side.Service
       → (a : ℕ) → inside s.layout a ≡ false → step.bytes_after b o p.effect a ≡ b a
-  range_by top (side.Own) p plan e = let z : ◌≡◌ {A = ℕ} 0 1 = cc in absurd (omega arith)
+  range_by top (side.Own) p plan e = absurd cc
   range_by top (side.Service) p plan e = let l = lawful_word s side.Service (word_at b s.counter) p plan in service_range b o s.layout top p.effect l.even l.memory l.allowed
 
   range_stays : s.layout.service.high % 2 ≡ 0 → (step.stepped s b o).answer ≡ Ok (made.Made side.Service) → (a : ℕ) → inside s.layout a ≡ false → (step.stepped s b o).bytes a ≡ b a
@@ -73,8 +73,8 @@ module _ (s : State) (b : ℕ → ℕ) (o : ℕ → Bool) where
   pub stays : (f : StepRefusal) → (step.stepped s b o).answer ≡ Err f → ((step.stepped s b o).state ≡ s) × ((step.stepped s b o).bytes ≡ b)
   stays f =
       ways s b o (λ x. x.answer ≡ Err f → (x.state ≡ s) × (x.bytes ≡ b))
-      (λ n ev en er e. let z : ◌≡◌ {A = ℕ} 0 1 = cc in absurd (omega arith))
-      (λ d p due at plan e. let z : ◌≡◌ {A = ℕ} 0 1 = cc in absurd (omega arith))
+      (λ n ev en er e. absurd cc)
+      (λ d p due at plan e. absurd cc)
       (λ d g due why e. (refl, refl))
 
 -- what an open service was lent at r and b, and holds at s and c
@@ -90,7 +90,7 @@ module _ (r : State) (b : ℕ → ℕ) (o : ℕ → Bool) (takes : Takes r) wher
   -- a step while the service is open is a service word or refused
   module _ (s : State) (c : ℕ → ℕ) (lent : Lent r b s c) where
     not_closed : s.service ≡ None → {A : Type 0} → A
-    not_closed h = let e = lent.copies in let z : ◌≡◌ {A = ℕ} 0 1 = cc in absurd (omega arith)
+    not_closed h = let e = lent.copies in absurd cc
 
     serves : (Q : step.Outcome → Type 0)
         → ((p : Plan) → check.planned s side.Service (word_at c s.counter) ≡ Ok p → Q (step.applied s c o side.Service (Ok p)))

@@ -49,7 +49,7 @@ module _ (n : ℕ) (s : State) (b : ℕ → ℕ) (o : ℕ → Bool) (t : Tally)
       let e = rest (counted t a) h in
       let m = counted_more t a in
       omega arith
-  whole_on (Err f) h = let z : ◌≡◌ {A = ℕ} 0 1 = cc in absurd (omega arith)
+  whole_on (Err f) h = absurd cc
 
 whole_by : (n : ℕ) (s : State) (b : ℕ → ℕ) (o : ℕ → Bool) (t : Tally) → (ran n s b o t).answer.end ≡ Ok tt → total (ran n s b o t).answer.tally ≡ total t + n
 whole_by zero s b o t h = omega arith

@@ -1,5 +1,6 @@
 -- Where a word may change a byte.
 use Rattle.std.proofs.Common.{◌≡◌, ℕ, ◌+◌, ◌/◌, ◌%◌, ◌<◌, ◌≤◌, Bool, true, false, cond, ◌&&◌, eqb, leb, refl, ap, ◌∙◌, arith}
+use Rattle.std.proofs.Math.Bool.{and-false}
 use Rattle.std.proofs.lemmas.Bool.Decides.{nat_tests}
 use Rattle.memory.specs.Meaning.{Meaning, stored}
 use Rattle.operations.specs.declared.values.Width.{Width}
@@ -11,12 +12,8 @@ use Rattle.machine.specs.declared.states.Layout.{Layout}
 use Rattle.machine.specs.Layouts.{inside, is_odd, is_io, trespasses}
 use Rattle.machine.specs.Steps.{memory_of, stored_as, bytes_after}
 
-and_false : (p q : Bool) → q ≡ false → (p && q) ≡ false
-and_false true q h = h
-and_false false q h = refl
-
 pub unstored : (m : Meaning) (a v x : ℕ) → eqb x a ≡ false → (stored m a v).byte x ≡ m.byte x
-unstored m a v x h = ap (λ q. cond q v (m.byte x)) (and_false (m.mark a) (eqb x a) h)
+unstored m a v x h = ap (λ q. cond (m.mark a && q) v (m.byte x)) h ∙ ap (λ q. cond q v (m.byte x)) (and-false (m.mark a))
 
 module _ (b : ℕ → ℕ) (o : ℕ → Bool) (l : Layout) where
   -- a byte or a word that is not where the store goes

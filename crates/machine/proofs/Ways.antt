@@ -1,5 +1,5 @@
 -- The ways of one step: a request is taken, a word runs, or the step is refused.
-use Rattle.std.proofs.Common.{◌≡◌, ℕ, Bool, true, false, cond, ◌⊎◌, List, Some, None, Ok, Err, Option, Result, refl, inl, inr, arith}
+use Rattle.std.proofs.Common.{◌≡◌, ℕ, Bool, true, false, cond, ◌⊎◌, List, Some, None, Ok, Err, Option, Result, refl, inl, inr}
 use Rattle.isa.specs.declared.refusals.Refusal.{Refusal}
 use Rattle.isa.specs.declared.refusals.Refusal.TheVariants.{Astray}
 use Rattle.memory.specs.Words.{word_at}
@@ -25,7 +25,7 @@ Refusing s b d f = (f ≡ Astray) ⊎ ((placed s.layout d s.counter ≡ true) ×
 
 found_by : (q : Bool) (r : Result Plan Refusal) (p : Plan) → cond q r (Err Astray) ≡ Ok p → (q ≡ true) × (r ≡ Ok p)
 found_by true r p h = (refl, h)
-found_by false r p h = let z : ◌≡◌ {A = ℕ} 0 1 = cc in absurd (omega arith)
+found_by false r p h = absurd cc
 
 -- a word that was found stands where it may, and was planned
 pub stands : (s : State) (b : ℕ → ℕ) (d : Side) (p : Plan) → step.found s b d ≡ Ok p
@@ -46,7 +46,7 @@ module _ (s : State) (b : ℕ → ℕ) (o : ℕ → Bool) (Q : step.Outcome → 
   placed_way d due false h = stays d Astray due (inl refl)
 
   way : (v : Option (List ℕ)) (n : Option ℕ) (r : Bool) → s.service ≡ v → s.pending ≡ n → s.interruptible ≡ r → Q (step.stepped_by s b o v n r)
-  way None None r ev en er = placed_way side.Own (ev, λ n h. let z : ◌≡◌ {A = ℕ} 0 1 = cc in absurd (omega arith)) (placed s.layout side.Own s.counter) refl
+  way None None r ev en er = placed_way side.Own (ev, λ n h. absurd cc) (placed s.layout side.Own s.counter) refl
   way None (Some n) true ev en er = takes n ev en er
   way None (Some n) false ev en er = placed_way side.Own (ev, λ n h. er) (placed s.layout side.Own s.counter) refl
   way (Some copies) n r ev en er = placed_way side.Service (copies, ev) (placed s.layout side.Service s.counter) refl

@@ -63,15 +63,15 @@ checks s d closing i =
     ∷ (Unkept, closing && nat_lt 0 (owing s))
     ∷ []
 
--- the first check that fails
-abbrev pub first_failed : List (Refusal × Bool) → Option Refusal
-first_failed [] = None
-first_failed (check ∷ rest) = cond check.1 (Some check.0) (first_failed rest)
+-- the refusal of the first check that fails
+abbrev pub first_failed : List (Refusal × Bool) → Result Unit Refusal
+first_failed [] = Ok tt
+first_failed (check ∷ rest) = cond check.1 (Err check.0) (first_failed rest)
 
 -- a plan, unless a check failed
-abbrev pub unless_refused : Option Refusal → Plan → Result Plan Refusal
-unless_refused None p = Ok p
-unless_refused (Some refusal) p = Err refusal
+abbrev pub unless_refused : Result Unit Refusal → Plan → Result Plan Refusal
+unless_refused (Ok passed) p = Ok p
+unless_refused (Err refusal) p = Err refusal
 
 -- the plan of what a word reads as
 abbrev pub plan_of : State → Side → Bool → Result Instruction Refusal → Result Plan Refusal

@@ -13,13 +13,8 @@ use operations::{Effect, Operands, gather};
 fn differing(registers: &[u16; 16], copies: &[u16; 16]) -> u8
     ensures { result ≡ spec.differing registers.now copies.now 15 }
 {
-    let mut count = 0;
-    for number in 1..16 {
-        if registers[number] != copies[number] {
-            count += 1;
-        }
-    }
-    count
+    let pairs = registers.iter().zip(copies).skip(1);
+    pairs.filter(|(held, copy)| held != copy).count() as u8
 }
 
 // The register that is read late is the result of the word before.
@@ -30,6 +25,7 @@ fn in_hazard(late: u8, before: u8) -> bool
 }
 
 impl State {
+    // The register that the side's last word wrote.
     fn last(&self, side: Side) -> u8
         ensures { result ≡ spec.last self.now side }
     {
@@ -42,12 +38,12 @@ impl State {
     pub(crate) fn owing(&self) -> u8
         ensures { result ≡ spec.owing self.now }
     {
-        match &self.service {
-            None => 0,
-            Some(copies) => differing(&self.registers, copies),
-        }
+        self.service
+            .as_ref()
+            .map_or(0, |copies| differing(&self.registers, copies))
     }
 
+    // The word that ends a service, with no prefix pending.
     fn closes(&self, side: Side, word: u16) -> bool
         ensures { result ≡ spec.closes self.now side word }
     {
@@ -66,56 +62,48 @@ impl State {
         )
     }
 
-    // The first check that the word fails.
-    fn first_failed(
-        &self,
-        side: Side,
-        closes: bool,
-        instruction: Instruction,
-        given: Operands,
-        effect: Effect,
-    ) -> Option<Refusal>
-        requires given { given ≡ spec.operands self.now instruction }
-        requires effect { effect ≡ spec.effect_in self.now instruction }
-        ensures { result ≡ spec.first_failed (spec.checks self.now side closes instruction) }
+    // The first check that the word fails refuses it.
+    fn check(&self, side: Side, plan: &Plan, given: Operands) -> Result<(), Refusal>
+        requires given { given ≡ spec.operands self.now plan.now.instruction }
+        requires effect { plan.now.effect ≡ spec.effect_in self.now plan.now.instruction }
+        ensures { result ≡ spec.first_failed (spec.checks self.now side plan.now.closes plan.now.instruction) }
     {
+        let instruction = plan.instruction;
         if side.is_own() && instruction.names(14) {
-            Some(Refusal::Reserved)
+            Err(Refusal::Reserved)
         } else if in_hazard(instruction.late(), self.last(side)) {
-            Some(Refusal::Hazard)
+            Err(Refusal::Hazard)
         } else if self.forerunner.lacks(instruction, self.prefix) {
-            Some(Refusal::Bare)
+            Err(Refusal::Bare)
         } else if given.miscounts(instruction) {
-            Some(Refusal::Count)
-        } else if is_odd(effect) {
-            Some(Refusal::Odd)
-        } else if is_io(effect) {
-            Some(Refusal::Io)
-        } else if self.layout.forbids(side, effect) {
-            Some(Refusal::Trespass)
-        } else if closes && self.owing() > 0 {
-            Some(Refusal::Unkept)
+            Err(Refusal::Count)
+        } else if is_odd(plan.effect) {
+            Err(Refusal::Odd)
+        } else if is_io(plan.effect) {
+            Err(Refusal::Io)
+        } else if self.layout.forbids(side, plan.effect) {
+            Err(Refusal::Trespass)
+        } else if plan.closes && self.owing() > 0 {
+            Err(Refusal::Unkept)
         } else {
-            None
+            Ok(())
         }
     }
 
+    // What the word is about to do, or why it is refused.
     fn planned(&self, side: Side, word: u16) -> Result<Plan, Refusal>
         ensures { result ≡ spec.planned self.now side word }
     {
         let instruction = isa::read(word)?;
-        let closes = self.closes(side, word);
         let given = self.operands(instruction);
-        let effect = given.effect(instruction);
-        match self.first_failed(side, closes, instruction, given, effect) {
-            Some(refusal) => Err(refusal),
-            None => Ok(Plan {
-                instruction,
-                effect,
-                leaves: given.leaves(instruction),
-                closes,
-            }),
-        }
+        let plan = Plan {
+            instruction,
+            effect: given.effect(instruction),
+            leaves: given.leaves(instruction),
+            closes: self.closes(side, word),
+        };
+        self.check(side, &plan, given)?;
+        Ok(plan)
     }
 
     // The plan of the word at the counter, which has to stand where the side's words may.

@@ -45,7 +45,7 @@ impl Layout {
         ensures { result ≡ spec.fits self size }
     {
         self.text % 16 == 0
-            && self.text as usize <= size
+            && usize::from(self.text) <= size
             && size <= 65280
             && self.service.fits(self.text)
     }
@@ -54,12 +54,7 @@ impl Layout {
 fn is_open_below<M: Memory>(memory: &M, size: u16) -> bool
     ensures { result ≡ spec.open_below (M.Memory.means memory.now).mark size }
 {
-    for address in 0..size {
-        if !memory.is_open(address) {
-            return false;
-        }
-    }
-    true
+    (0..size).all(|address| memory.is_open(address))
 }
 
 impl Core {
@@ -73,6 +68,7 @@ impl Core {
     }
 
     // Stores an image and resets the core, unless text and range do not fit or an image address is closed.
+    #[tactic(auto, using(crate::proofs::Fitting::fitting))]
     pub fn load<M: Memory>(
         &mut self,
         memory: &mut M,

@@ -42,11 +42,11 @@ impl Core {
     pub fn register(&self, number: u8) -> Result<u16, Refusal>
         ensures { result ≡ (if nat_lt number 16 then Ok (slice_index self.now.state.registers number) else Err refusal.Register) }
     {
-        if number < 16 {
-            Ok(self.state.registers[number as usize])
-        } else {
-            Err(Refusal::Register)
-        }
+        self.state
+            .registers
+            .get(usize::from(number))
+            .copied()
+            .ok_or(Refusal::Register)
     }
 
     // How many of r1 to r15 an open service has yet to give back.

@@ -7,25 +7,6 @@ use crate::states::{Plan, Side, State};
 use memory::{Memory, load_word, store_word};
 use operations::{Effect, Forerunner, Width};
 
-fn load<M: Memory>(memory: &M, width: Width, address: u16) -> u16
-    ensures { result ≡ spec.loaded (M.Memory.means memory.now).byte width address }
-{
-    match width {
-        Width::Byte => u16::from(memory.read(address)),
-        Width::Word => load_word(memory, address),
-    }
-}
-
-fn store<M: Memory>(memory: &mut M, width: Width, address: u16, value: u16)
-    ensures meaning { M.Memory.means memory.new ≡ spec.stored_in (M.Memory.means memory.old) width address value }
-    ensures lent { M.Memory.loan memory.new ≡ M.Memory.loan memory.old }
-{
-    match width {
-        Width::Byte => memory.store(address, (value % 256) as u8),
-        Width::Word => store_word(memory, address, value),
-    }
-}
-
 // Makes the access of an effect, and answers the value for the result's register.
 fn access<M: Memory>(memory: &mut M, effect: Effect) -> u16
     ensures value { result ≡ spec.value_by (M.Memory.means memory.old).byte effect }
@@ -34,13 +15,19 @@ fn access<M: Memory>(memory: &mut M, effect: Effect) -> u16
 {
     match effect {
         Effect::Put { value, .. } => value,
-        Effect::Load { width, address } => load(memory, width, address),
+        Effect::Load { width, address } => match width {
+            Width::Byte => u16::from(memory.read(address)),
+            Width::Word => load_word(memory, address),
+        },
         Effect::Store {
             width,
             address,
             value,
         } => {
-            store(memory, width, address, value);
+            match width {
+                Width::Byte => memory.store(address, (value % 256) as u8),
+                Width::Word => store_word(memory, address, value),
+            }
             0
         }
         Effect::Hold { .. } => 0,
@@ -52,7 +39,7 @@ fn next_counter(counter: u16, effect: Effect) -> u16
 {
     match effect {
         Effect::Put { next, .. } => next,
-        Effect::Load { .. } | Effect::Store { .. } | Effect::Hold { .. } => counter.wrapping_add(2),
+        _ => counter.wrapping_add(2),
     }
 }
 
@@ -61,52 +48,20 @@ fn next_prefix(effect: Effect) -> Option<u16>
 {
     match effect {
         Effect::Hold { prefix } => Some(prefix),
-        Effect::Put { .. } | Effect::Load { .. } | Effect::Store { .. } => None,
+        _ => None,
     }
 }
 
+#[tactic(auto, using(std::proofs::lemmas::List::set_past, std::proofs::lemmas::Bool::Decides::nat_tests))]
 fn write(registers: &mut [u16; 16], number: u8, value: u16)
     ensures { registers.new ≡ spec.written registers.old number value }
 {
     if number != 0 && number < 16 {
-        registers[number as usize] = value;
-    }
-}
-
-fn waited(pending: Option<u16>, side: Side) -> Option<u16>
-    requires { wait_of pending ≤ 32640 }
-    ensures { result ≡ spec.waited pending side }
-{
-    match (pending, side) {
-        (None, _) => None,
-        (Some(wait), Side::Own) => Some(wait + 1),
-        (Some(wait), Side::Service) => Some(wait),
+        registers[usize::from(number)] = value;
     }
 }
 
 impl State {
-    fn settle(&mut self, side: Side, plan: &Plan, value: u16, next: u16, prefix: Option<u16>)
-        requires { wait_of self.old.pending ≤ 32640 }
-        ensures { self.new ≡ spec.settled self.old side plan.now value next prefix }
-    {
-        let result = plan.instruction.result();
-        write(&mut self.registers, result, value);
-        self.counter = next;
-        self.prefix = prefix;
-        if let Some(forerunner) = plan.leaves {
-            self.forerunner = forerunner;
-        }
-        match side {
-            Side::Own => self.made = result,
-            Side::Service => self.served = result,
-        }
-        self.pending = waited(self.pending, side);
-        self.interruptible = !plan.instruction.is_interlocked();
-        if plan.closes {
-            self.service = None;
-        }
-    }
-
     // Does what a word that passed its checks is to do.
     pub(crate) fn apply<M: Memory>(&mut self, side: Side, plan: &Plan, memory: &mut M)
         requires { wait_of self.old.pending ≤ 32640 }
@@ -115,8 +70,26 @@ impl State {
         ensures lent { M.Memory.loan memory.new ≡ M.Memory.loan memory.old }
     {
         let value = access(memory, plan.effect);
-        let next = next_counter(self.counter, plan.effect);
-        self.settle(side, plan, value, next, next_prefix(plan.effect));
+        let result = plan.instruction.result();
+        write(&mut self.registers, result, value);
+        self.counter = next_counter(self.counter, plan.effect);
+        self.prefix = next_prefix(plan.effect);
+        if let Some(forerunner) = plan.leaves {
+            self.forerunner = forerunner;
+        }
+        match side {
+            Side::Own => {
+                self.made = result;
+                if let Some(wait) = &mut self.pending {
+                    *wait += 1;
+                }
+            }
+            Side::Service => self.served = result,
+        }
+        self.interruptible = !plan.instruction.is_interlocked();
+        if plan.closes {
+            self.service = None;
+        }
     }
 
     // Takes the pending request: r14 gets the counter, the counter 0x0010, then the registers are copied.
@@ -125,8 +98,7 @@ impl State {
     {
         self.registers[14] = self.counter;
         self.counter = 0x0010;
-        let copies = self.registers;
-        self.service = Some(copies);
+        self.service = Some(self.registers);
         self.pending = None;
         self.forerunner = Forerunner::Nothing;
         self.served = 14;

@@ -40,7 +40,7 @@ pub struct State {
     pub layout: Layout,
 }
 
-// A word that has passed every check: what it does, what it leaves (none: the forerunner stays), and whether it closes the service.
+// What a word is about to do: its effect, what it leaves (none: the forerunner stays), and whether it closes the service.
 #[derive(Clone, Copy)]
 pub struct Plan {
     pub instruction: Instruction,

@@ -64,6 +64,7 @@ impl Core {
     }
 
     // One step: a request is taken, or one word runs, own or service.
+    #[tactic(auto, using(crate::proofs::Promises::step_laws))]
     pub fn step<M: Memory>(&mut self, memory: &mut M) -> Result<Step, StepRefusal>
         ensures exact { spec.Steps self.old.state (M.Memory.means memory.old)
             result self.new.state (M.Memory.means memory.new) }

@@ -1,14 +1,11 @@
-use Rattle.std.proofs.Common.{◌≡◌, true, ◌&&◌, sym, ap, ◌∙◌, add-one, arith}
-use Rattle.machine.proofs.Fitting.{shut}
+use Rattle.std.proofs.Common.{◌∙◌, refl, arith, rules, tests}
+use Rattle.std.proofs.lemmas.Iterator.{YieldsList-from_range}
+use Rattle.std.proofs.lemmas.Iterator.Search.{all_from_yields_List}
+use Rattle.machine.proofs.Counted.{open_range}
 use Rattle.machine.proofs.loading.is_open_below.Goals as goal
 
-pub returns-then-not-is_open : goal.returns-then-not-is_open
-returns-then-not-is_open g c =
+pub returns : goal.returns
+returns g c =
     let o = (g.M.Memory.means c.args.memory.now).mark in
-    sym (shut o c.loop-address.address c.args.size (omega arith) (sym c.is_open.ensures ∙ c.if-not-is_open.true))
-
-pub loop-address-preserved : goal.loop-address-preserved
-loop-address-preserved g c =
-    let o = (g.M.Memory.means c.args.memory.now).mark in
-    let here : o c.loop-address.address ≡ true = sym c.is_open.ensures ∙ c.if-not-is_open.false in
-    rw add-one (ap (λ x. x && o c.loop-address.address) c.loop-address.invariant ∙ here)
+    all_from_yields_List o _ _ _ c.all.ensures.ran (YieldsList-from_range 0 c.args.size c.args.size refl (omega arith)) (λ x b q k. search (rules, tests))
+    ∙ open_range o c.args.size

@@ -1,9 +1,6 @@
-use Rattle.std.proofs.Common.{◌≡◌, ◌%◌, ◌≤◌, true, Ok, Result, sym, ap, ◌∙◌, subst, rules}
-use Rattle.isa.specs.declared.refusals.Refusal.{Refusal}
+use Rattle.std.proofs.Common.{◌≡◌, ◌%◌, ◌≤◌, Ok, sym, ap, ◌∙◌, subst, rules}
 use Rattle.memory.specs.Words.{word_at}
 use Rattle.machine.specs.declared.states.Layout.{Layout}
-use Rattle.machine.specs.Layouts.{placed}
-use Rattle.machine.specs.Checks.{planned}
 use Rattle.machine.specs.Steps.{found}
 use Rattle.machine.proofs.Lawful.{sound, same_layout}
 use Rattle.machine.proofs.Waiting.{kept_after, below_text}

@@ -1,7 +1,5 @@
 use Rattle.machine.proofs.Repeating.{run_laws}
 use Rattle.machine.proofs.body.Core.run.Goals as goal
 
-pub returns : goal.returns
-returns g c =
-    let done = c.spend.ensures in
-    record { exact = done.exact; laws = run_laws _ _ _ _ _ _ done.exact; lent = done.lent }
+pub returns-clause-laws : goal.returns-clause-laws
+returns-clause-laws g c = run_laws _ _ _ _ _ _ c.spend-end.ensures.exact
