@@ -34,17 +34,15 @@ is_word (width.Word) = true
 
 -- an access to a word at an odd address
 abbrev pub is_odd : Effect → Bool
-is_odd (effect.Put value next) = false
 is_odd (effect.Load width a) = is_word width && a % 2 == 1
 is_odd (effect.Store width a value) = is_word width && a % 2 == 1
-is_odd (effect.Hold prefix) = false
+is_odd _ = false
 
 -- an access to the last 256 addresses
 abbrev pub is_io : Effect → Bool
-is_io (effect.Put value next) = false
 is_io (effect.Load width a) = nat_le 65280 a
 is_io (effect.Store width a value) = nat_le 65280 a
-is_io (effect.Hold prefix) = false
+is_io _ = false
 
 -- own words may not load from the service range
 abbrev pub bad_load : Layout → Side → ℕ → Bool
@@ -58,7 +56,6 @@ bad_store l (side.Service) a = not (inside l a)
 
 -- an access that the side may not make
 abbrev pub trespasses : Layout → Side → Effect → Bool
-trespasses l d (effect.Put value next) = false
 trespasses l d (effect.Load width a) = bad_load l d a
 trespasses l d (effect.Store width a value) = bad_store l d a
-trespasses l d (effect.Hold prefix) = false
+trespasses l d _ = false

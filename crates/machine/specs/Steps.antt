@@ -71,22 +71,17 @@ stored_as b o (width.Word) a value = (stored_word (memory_of b o) a value).byte
 abbrev pub value_by : (ℕ → ℕ) → Effect → ℕ
 value_by b (effect.Put value next) = value
 value_by b (effect.Load width a) = loaded b width a
-value_by b (effect.Store width a value) = 0
-value_by b (effect.Hold prefix) = 0
+value_by b _ = 0
 
 -- the counter after
 abbrev pub counter_by : ℕ → Effect → ℕ
 counter_by counter (effect.Put value next) = next
-counter_by counter (effect.Load width a) = following counter
-counter_by counter (effect.Store width a value) = following counter
-counter_by counter (effect.Hold prefix) = following counter
+counter_by counter _ = following counter
 
 -- the prefix after
 abbrev pub prefix_by : Effect → Option ℕ
-prefix_by (effect.Put value next) = None
-prefix_by (effect.Load width a) = None
-prefix_by (effect.Store width a value) = None
 prefix_by (effect.Hold prefix) = Some prefix
+prefix_by _ = None
 
 -- the state after a word that did this
 abbrev pub after : State → (ℕ → ℕ) → Side → Plan → Effect → State
@@ -94,10 +89,8 @@ after s b d p e = settled s d p (value_by b e) (counter_by s.counter e) (prefix_
 
 -- the bytes after a word that did this
 abbrev pub bytes_after : (ℕ → ℕ) → (ℕ → Bool) → Effect → ℕ → ℕ
-bytes_after b o (effect.Put value next) = b
-bytes_after b o (effect.Load width a) = b
 bytes_after b o (effect.Store width a value) = stored_as b o width a value
-bytes_after b o (effect.Hold prefix) = b
+bytes_after b o _ = b
 
 -- the memory after a value is stored at an address
 abbrev pub stored_in : Meaning → Width → ℕ → ℕ → Meaning
@@ -182,8 +175,7 @@ due s (side.Service) = not (closed s.service)
 -- one request pends at a time, and none while a service is open
 abbrev pub busy_by : Option (List ℕ) → Option ℕ → Bool
 busy_by None None = false
-busy_by None (Some n) = true
-busy_by (Some copies) pending = true
+busy_by _ _ = true
 
 -- a request would be refused
 abbrev pub busy : State → Bool

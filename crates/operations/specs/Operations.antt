@@ -32,9 +32,7 @@ base (Lb d a n) = a
 base (Sw d a n) = a
 base (Sb d a n) = a
 base (Jal d a n) = a
-base (Branch c n) = 0
-base (Call n) = 0
-base (Imm n) = 0
+base _ = 0
 
 -- the immediate that a field forms with the pending prefix; 0 where the instruction has no field
 abbrev pub immediate_by : Option ImmediateField → Option ℕ → ℕ
@@ -128,19 +126,12 @@ highest x = Some (Shift (nat_le 32768 x))
 
 -- what opcode 3's functions leave
 abbrev pub register_leaves : RegisterFunction → Operands → Option Forerunner
-register_leaves And o = Some Nothing
-register_leaves Or o = Some Nothing
-register_leaves Xor o = Some Nothing
-register_leaves Andn o = Some Nothing
 register_leaves Adc o = sum_left o.left o.right (carry_of o.forerunner)
 register_leaves Sbc o = difference_left o.left o.right (carry_of o.forerunner)
+register_leaves _ o = Some Nothing
 
 -- what opcode 4's functions leave
 abbrev pub immediate_leaves : ImmediateFunction → Operands → Option Forerunner
-immediate_leaves Andi o = Some Nothing
-immediate_leaves Ori o = Some Nothing
-immediate_leaves Xori o = Some Nothing
-immediate_leaves Andni o = Some Nothing
 immediate_leaves Adci o = sum_left o.left o.immediate (carry_of o.forerunner)
 immediate_leaves Sbci o = difference_left o.left o.immediate (carry_of o.forerunner)
 immediate_leaves Srli o = lowest o.left
@@ -148,6 +139,7 @@ immediate_leaves Srai o = lowest o.left
 immediate_leaves Slli o = highest o.left
 immediate_leaves Srxi o = lowest o.left
 immediate_leaves Slxi o = highest o.left
+immediate_leaves _ o = Some Nothing
 
 -- what an instruction leaves as forerunner; none where it keeps the one before, as imm does
 abbrev pub leaves : Instruction → Operands → Option Forerunner
@@ -156,41 +148,19 @@ leaves (Sub d a b) o = difference_left o.left o.right false
 leaves (Addi d a n) o = sum_left o.left o.immediate false
 leaves (Register f d b) o = register_leaves f o
 leaves (Immediate f d n) o = immediate_leaves f o
-leaves (Lw d a n) o = Some Nothing
-leaves (Lb d a n) o = Some Nothing
-leaves (Sw d a n) o = Some Nothing
-leaves (Sb d a n) o = Some Nothing
-leaves (Jal d a n) o = Some Nothing
-leaves (Branch c n) o = Some Nothing
-leaves (Call n) o = Some Nothing
 leaves (Imm n) o = None
+leaves _ o = Some Nothing
 
 -- the five shifts
 abbrev pub shifts : ImmediateFunction → Bool
-shifts Andi = false
-shifts Ori = false
-shifts Xori = false
-shifts Andni = false
-shifts Adci = false
-shifts Sbci = false
 shifts Srli = true
 shifts Srai = true
 shifts Slli = true
 shifts Srxi = true
 shifts Slxi = true
+shifts _ = false
 
 -- a shift whose immediate is not 1
 abbrev pub miscounts : Instruction → Operands → Bool
-miscounts (Add d a b) o = false
-miscounts (Sub d a b) o = false
-miscounts (Addi d a n) o = false
-miscounts (Register f d b) o = false
 miscounts (Immediate f d n) o = shifts f && not (o.immediate == 1)
-miscounts (Lw d a n) o = false
-miscounts (Lb d a n) o = false
-miscounts (Sw d a n) o = false
-miscounts (Sb d a n) o = false
-miscounts (Jal d a n) o = false
-miscounts (Branch c n) o = false
-miscounts (Call n) o = false
-miscounts (Imm n) o = false
+miscounts _ o = false
