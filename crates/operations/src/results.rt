@@ -13,6 +13,7 @@ fn plus_carry(x: u16, y: u16, carry: bool) -> u16
     x.wrapping_add(y).wrapping_add(u16::from(carry))
 }
 
+// Not a sum with the inverted operand: as a difference it reads as its definition does.
 fn minus_borrow(x: u16, y: u16, borrow: bool) -> u16
     ensures { result ≡ minus (minus x y) (one_if borrow) }
 {
