@@ -1,5 +1,5 @@
 -- The plan of an own word is the same for the first core and its twin.
-use Rattle.std.proofs.Common.{◌≡◌, ℕ, Bool, true, false, ◌&&◌, eqb, ltb, [], ◌∷◌, Ok, Err, Option, Result, sym, refl, ap, ◌∙◌, arith}
+use Rattle.std.proofs.Common.{◌≡◌, ℕ, Bool, true, false, ◌&&◌, eqb, ltb, [], ◌∷◌, Ok, Err, Option, Result, sym, refl, ap, ◌∙◌, arith, None}
 use Rattle.std.proofs.lemmas.Bool.Decides.{nat_tests}
 use Rattle.isa.specs.declared.refusals.Refusal.{Refusal}
 use Rattle.isa.specs.declared.refusals.Refusal.TheVariants as refusal
@@ -8,17 +8,16 @@ use Rattle.isa.specs.Registers.{late, names}
 use Rattle.isa.specs.Words.{read_word}
 use Rattle.operations.specs.declared.values.Forerunner.{Forerunner}
 use Rattle.operations.specs.declared.values.Effect.{Effect}
-use Rattle.operations.specs.Forerunners.{carry_of, first_of, second_of, bit_of, lacks}
+use Rattle.operations.specs.Forerunners.{lacks}
 use Rattle.operations.specs.Operations.{base, effect_of, leaves, miscounts}
 use Rattle.machine.specs.declared.states.Side.TheVariants as side
-use Rattle.machine.specs.declared.states.Service.TheVariants as service
 use Rattle.machine.specs.declared.states.Layout.{Layout}
 use Rattle.machine.specs.declared.states.State.{State}
 use Rattle.machine.specs.declared.states.Plan.{Plan}
 use Rattle.machine.specs.Layouts.{is_odd, is_io, trespasses}
 use Rattle.machine.specs.Checks.{hazard, owed, owing, operands, first_failed, unless_refused, plan_of, planned}
 use Rattle.histories.specs.Texts.{extended_reading, reads_extended}
-use Rattle.histories.proofs.Words.{fore_alike, with_bit, Plain, facts}
+use Rattle.histories.proofs.Words.{behind, Plain, facts}
 use Rattle.histories.proofs.Sides.{Together, read_rest}
 
 -- the plan of an own word, from what its checks ask
@@ -39,17 +38,14 @@ plan_by i named last lacking miscounting e f l owed closing =
 unequal : (k : ℕ) → eqb k 14 ≡ false → k ≡ 14 → ⊥
 unequal k h e = grind (arith, nat_tests)
 
-module _ (s t : State) (el : s.layout ≡ t.layout) (es : s.service ≡ service.Closed) (et : t.service ≡ service.Closed)
+module _ (s t : State) (el : s.layout ≡ t.layout) (es : s.service ≡ None) (et : t.service ≡ None)
     (em : s.made ≡ t.made) (st : Together s t) where
-  -- all but the shifted bit, where the word does not name r14
-  same_operands : (i : Instruction) → names i 14 ≡ false → operands s i ≡ with_bit (operands t i) (bit_of s.forerunner)
+  -- all but what the word before left, where the word does not name r14
+  same_operands : (i : Instruction) → names i 14 ≡ false → operands s i ≡ behind (operands t i) s.forerunner
   same_operands i h =
       let n = (facts i).unnamed h in
       let x = read_rest s.registers t.registers (base i) st.registers (unequal (base i) n.1) in
       let y = read_rest s.registers t.registers (late i) st.registers (unequal (late i) n.2) in
-      let c = fore_alike carry_of (λ _. refl) s.forerunner t.forerunner st.fore in
-      let u = fore_alike first_of (λ _. refl) s.forerunner t.forerunner st.fore in
-      let v = fore_alike second_of (λ _. refl) s.forerunner t.forerunner st.fore in
       let p = st.prefix in
       let q = st.counter in
       cc
@@ -63,18 +59,15 @@ module _ (s t : State) (el : s.layout ≡ t.layout) (es : s.service ≡ service.
   same_by i plain q true h = refl
   same_by i plain q false h =
       let g = same_operands i h in
-      let x = (facts i).blind plain (operands t i) (bit_of s.forerunner) (bit_of t.forerunner) in
+      let x = (facts i).blind plain (operands t i) s.forerunner t.forerunner st.fore in
       let lack = ap (lacks s.forerunner i) st.prefix ∙ (facts i).lacking plain t.prefix s.forerunner t.forerunner st.fore in
       let count = ap (miscounts i) g ∙ x.2 in
       let does = ap (effect_of i) g ∙ x.0 in
       let left = ap (leaves i) g ∙ x.1 in
-      ap (λ z. plan_by i false z (lacks s.forerunner i s.prefix) (miscounts i (operands s i)) (effect_of i (operands s i)) (leaves i (operands s i)) s.layout (owing s) q) em
-      ∙ ap (λ z. plan_by i false t.made z (miscounts i (operands s i)) (effect_of i (operands s i)) (leaves i (operands s i)) s.layout (owing s) q) lack
-      ∙ ap (λ z. plan_by i false t.made (lacks t.forerunner i t.prefix) z (effect_of i (operands s i)) (leaves i (operands s i)) s.layout (owing s) q) count
-      ∙ ap (λ z. plan_by i false t.made (lacks t.forerunner i t.prefix) (miscounts i (operands t i)) z (leaves i (operands s i)) s.layout (owing s) q) does
-      ∙ ap (λ z. plan_by i false t.made (lacks t.forerunner i t.prefix) (miscounts i (operands t i)) (effect_of i (operands t i)) z s.layout (owing s) q) left
-      ∙ ap (λ z. plan_by i false t.made (lacks t.forerunner i t.prefix) (miscounts i (operands t i)) (effect_of i (operands t i)) (leaves i (operands t i)) z (owing s) q) el
-      ∙ ap (λ z. plan_by i false t.made (lacks t.forerunner i t.prefix) (miscounts i (operands t i)) (effect_of i (operands t i)) (leaves i (operands t i)) t.layout z q) same_owing
+      let made = em in
+      let layout = el in
+      let owed = same_owing in
+      cc
 
   same_plan_of : (q : Bool) (r : Result Instruction Refusal) → extended_reading r ≡ false → plan_of s side.Own q r ≡ plan_of t side.Own q r
   same_plan_of q (Err e) plain = refl

@@ -7,7 +7,6 @@ use Rattle.machine.specs.declared.answers.Step.{Step}
 use Rattle.machine.specs.declared.answers.Step.TheVariants as made
 use Rattle.machine.specs.declared.answers.StepRefusal.{StepRefusal}
 use Rattle.machine.specs.declared.answers.Tally.{Tally}
-use Rattle.machine.specs.declared.answers.End.TheVariants as end
 use Rattle.machine.specs.Steps.{stepped, asked}
 use Rattle.machine.specs.Runs.{Ran, ran, go_on, counted, no_steps}
 use Rattle.machine.specs.Loads.{fresh}
@@ -30,7 +29,7 @@ alone_then o {n = n} {t = t} {v = v} {c = c} {e = e} (more {n = m} h x) y =
 
 -- a run of as many steps is spent, and ends where the steps alone end
 abbrev pub SpentAt : Ran → State → (ℕ → ℕ) → Type 0
-SpentAt r u e = (r.answer.end ≡ end.Spent) × (r.state ≡ u) × (r.bytes ≡ e)
+SpentAt r u e = (r.answer.end ≡ Ok tt) × (r.state ≡ u) × (r.bytes ≡ e)
 
 pub alone_ran : (o : ℕ → Bool) {n : ℕ} {t u : State} {c e : ℕ → ℕ} → Alone o n t c u e → (y : Tally) → SpentAt (ran n t c o y) u e
 alone_ran o none y = (refl, refl, refl)
@@ -114,7 +113,7 @@ module _ (o o' : ℕ → Bool) (marks : SameMarks o o') where
       → After (stepped s b o).state (stepped s b o).bytes t c (stepped t c o') r → OwnStep r → (stepped t c o').answer ≡ r
   alike s b t c (Ok (made.Taken wait)) h k = absurd k
   alike s b t c (Ok (made.Made (side.Own))) h k = h.0
-  alike s b t c (Ok (made.Made (side.Service))) h k = let z : ◌≡◌ {A = ℕ} 0 1 = cc in absurd (omega arith)
+  alike s b t c (Ok (made.Made (side.Service))) h k = cc
   alike s b t c (Err f) h k = h.1 k
 
   pub undisturbed : (s : State) (b : ℕ → ℕ) (t : State) (c : ℕ → ℕ) → Sim s b t c → Undisturbed o s b o' t c

@@ -1,6 +1,7 @@
 -- Each taken request waited at most one more than the longest interlocked run.
 use Rattle.std.proofs.Common.{◌≡◌, ℕ, ◌+◌, ◌*◌, ◌<◌, ◌≤◌, Bool, true, false, cond, not, List, ◌∷◌, ◌++◌, Some, None, Ok, Err, Option, sym, refl, ap, ◌∙◌, subst, inl, inr, arith}
-use Rattle.std.proofs.lemmas.Bool.{cases_eq}
+use Rattle.std.proofs.lemmas.Bool.{cases_eq, not-false}
+use Rattle.std.proofs.lemmas.Option.{same_Some}
 use Rattle.isa.specs.Registers.{interlocked, interlocked_reading, reads_interlocked}
 use Rattle.memory.specs.Words.{word_at}
 use Rattle.operations.specs.declared.values.Effect.{Effect}
@@ -8,8 +9,6 @@ use Rattle.operations.specs.declared.values.Effect.TheVariants as effect
 use Rattle.operations.specs.Arithmetic.{following}
 use Rattle.machine.specs.declared.states.Side.{Side}
 use Rattle.machine.specs.declared.states.Side.TheVariants as side
-use Rattle.machine.specs.declared.states.Service.{Service}
-use Rattle.machine.specs.declared.states.Service.TheVariants as service
 use Rattle.machine.specs.declared.states.Layout.{Layout}
 use Rattle.machine.specs.declared.states.State.{State}
 use Rattle.machine.specs.declared.states.Plan.{Plan}
@@ -18,7 +17,6 @@ use Rattle.machine.specs.Layouts.{placed}
 use Rattle.machine.specs.Checks.{operands, planned}
 use Rattle.machine.specs.Steps.{waited, after, stepped, busy_by, asked}
 use Rattle.machine.specs.Loads.{fresh}
-use Rattle.machine.proofs.Lawful.{clash}
 use Rattle.machine.proofs.Waiting.{GoesOn, goes_on}
 use Rattle.machine.proofs.Ways.{Due, ways, settles}
 use Rattle.histories.specs.declared.actions.Action.{Action}
@@ -36,20 +34,7 @@ onward_by s b d p k (effect.Load w a) g h = refl
 onward_by s b d p k (effect.Store w a v) g h = refl
 onward_by s b d p k (effect.Hold x) g h = refl
 
-some_same : (m n : ℕ) → Some m ≡ Some n → m ≡ n
-some_same m n h = cc
-
-none_some : {A : Type 0} (p : Option ℕ) (n : ℕ) → p ≡ None → p ≡ Some n → A
-none_some p n h k = let z : ◌≡◌ {A = ℕ} 0 1 = cc in absurd (omega arith)
-
-pub closed_open : {A : Type 0} (v : Service) (copies : List ℕ) → v ≡ service.Closed → v ≡ service.Open copies → A
-closed_open v copies h k = let z : ◌≡◌ {A = ℕ} 0 1 = cc in absurd (omega arith)
-
-not_true : (b : Bool) → not b ≡ false → b ≡ true
-not_true true h = refl
-not_true false h = clash h
-
-pub closed_still : (q : Bool) (v : Service) → v ≡ service.Closed → cond q service.Closed v ≡ service.Closed
+pub closed_still : (q : Bool) (v : Option (List ℕ)) → v ≡ None → cond q None v ≡ None
 closed_still true v h = refl
 closed_still false v h = h
 
@@ -61,7 +46,7 @@ module _ (l : Layout) (laid : Laid l) (b₀ : ℕ → ℕ) (longest : ℕ) (with
     pub run : InterlockedRun l.text b₀ start n
 
   abbrev Wait : State → ℕ → Type 0
-  Wait s n = (s.service ≡ service.Closed) × (s.interruptible ≡ true → n ≤ longest + 1) × (s.interruptible ≡ false → RunUp n s.counter)
+  Wait s n = (s.service ≡ None) × (s.interruptible ≡ true → n ≤ longest + 1) × (s.interruptible ≡ false → RunUp n s.counter)
 
   pub record Waiting (w : Unit {0}) (s : State) (b : ℕ → ℕ) : Type 0 where
     pub housed : Housed l b₀ s b
@@ -95,12 +80,12 @@ module _ (l : Layout) (laid : Laid l) (b₀ : ℕ → ℕ) (longest : ℕ) (with
     -- a request that waits through an own word
     own_waits : (p : Plan) (due : Due s side.Own) → placed s.layout side.Own s.counter ≡ true → planned s side.Own (word_at b s.counter) ≡ Ok p
         → (q : Option ℕ) → s.pending ≡ q → (n : ℕ) → waited q side.Own ≡ Some n → Wait (after s b side.Own p p.effect) n
-    own_waits p due stood e None eq n en = let z : ◌≡◌ {A = ℕ} 0 1 = cc in absurd (omega arith)
+    own_waits p due stood e None eq n en = cc
     own_waits p due stood e (Some m) eq n en =
         let x = h.waits m eq in
         let r = x.2 (due.1 m eq) in
         let low = within r.start m r.run in
-        let more : n ≡ m + 1 = sym (some_same (m + 1) n en) in
+        let more : n ≡ m + 1 = sym (same_Some (m + 1) n en) in
         let y = lawful_at s side.Own (word_at b s.counter) p e in
         let t = settles s b side.Own p p.effect in
         let here = placed_own l laid b₀ s b h.housed stood in
@@ -108,7 +93,7 @@ module _ (l : Layout) (laid : Laid l) (b₀ : ℕ → ℕ) (longest : ℕ) (with
           ap (λ x. x.service) t.is ∙ closed_still p.closes s.service due.0,
           λ _. omega arith,
           λ held.
-              let locked = not_true (interlocked p.instruction) (sym ready ∙ held) in
+              let locked = not-false (interlocked p.instruction) (sym ready ∙ held) in
               let g = subst (GoesOn s.counter (interlocked p.instruction)) (sym y.effect) (goes_on p.instruction (operands s p.instruction)) in
               let on = onward_by s b side.Own p (interlocked p.instruction) p.effect g locked in
               let small = here.text in
@@ -127,22 +112,22 @@ module _ (l : Layout) (laid : Laid l) (b₀ : ℕ → ℕ) (longest : ℕ) (with
     run_waits (side.Service) p due stood e n en =
         let same : (q : Option ℕ) → waited q side.Service ≡ q = λ q. elim q as (λ q. waited q side.Service ≡ q) [ None ↦ refl | Some m ↦ refl ] in
         let x = h.waits n (sym (same s.pending) ∙ sym (ap (λ x. x.pending) (settles s b side.Service p p.effect).is) ∙ en) in
-        closed_open s.service due.0 x.0 due.1
+        cc (x.0, due.1)
 
     stepping : Within tt (step_of s b o) × Waiting tt (stepped s b o).state (stepped s b o).bytes
     stepping = ways s b o (λ x. Within tt (step s.counter (word_at b s.counter) x.answer) × Waiting tt x.state x.bytes)
-        (λ n shut waits ready. ((h.waits n waits).1 ready, record { housed = housed_taken l laid b₀ s b h.housed; waits = λ n k. none_some None n refl k }))
+        (λ n shut waits ready. ((h.waits n waits).1 ready, record { housed = housed_taken l laid b₀ s b h.housed; waits = λ n k. cc }))
         (λ d p due stood e. (tt, record { housed = housed_run l laid b₀ s b h.housed o d p e; waits = run_waits d p due stood e }))
         (λ d f due why. (tt, h))
 
-    asking_by : (v : Service) (q : Option ℕ) → s.service ≡ v → s.pending ≡ q → (n : ℕ) → cond (busy_by v q) q (Some 0) ≡ Some n → Wait (asked s) n
-    asking_by (service.Closed) None ev eq n k =
-        let z = some_same 0 n k in
+    asking_by : (v : Option (List ℕ)) (q : Option ℕ) → s.service ≡ v → s.pending ≡ q → (n : ℕ) → cond (busy_by v q) q (Some 0) ≡ Some n → Wait (asked s) n
+    asking_by None None ev eq n k =
+        let z = same_Some 0 n k in
         let none_yet : RunUp 0 s.counter =
         record { start = s.counter; ends = omega arith; run = record { even = h.housed.even; each = λ k j. absurd (omega arith) } } in
         (ev, λ _. omega arith, λ _. subst (λ z. RunUp z s.counter) z none_yet)
-    asking_by (service.Closed) (Some m) ev eq n k = h.waits n (eq ∙ k)
-    asking_by (service.Open copies) q ev eq n k = h.waits n (eq ∙ k)
+    asking_by None (Some m) ev eq n k = h.waits n (eq ∙ k)
+    asking_by (Some copies) q ev eq n k = h.waits n (eq ∙ k)
 
     asking : Waiting tt (asked s) b
     asking = record { housed = housed_asked l laid b₀ s b h.housed; waits = λ n k. asking_by s.service s.pending refl refl n k }
@@ -156,4 +141,4 @@ module _ (l : Layout) (laid : Laid l) (b₀ : ℕ → ℕ) (longest : ℕ) (with
 pub waits_are_bounded : WaitsAreBounded
 waits_are_bounded longest l size fit m within actions =
     waits_within l (laid l size fit) m.byte longest within m.mark (fresh l)
-    (record { housed = housed_fresh l m.byte; waits = λ n k. none_some None n refl k }) actions
+    (record { housed = housed_fresh l m.byte; waits = λ n k. cc }) actions

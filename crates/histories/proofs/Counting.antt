@@ -1,5 +1,5 @@
 -- A run's steps count like single ones.
-use Rattle.std.proofs.Common.{◌≡◌, ℕ, zero, suc, ◌+◌, ◌≤◌, max, Bool, ◌⊎◌, List, [], ◌∷◌, ◌++◌, Some, None, Ok, Err, Option, Result, sym, refl, ap, ◌∙◌, inl, inr, arith}
+use Rattle.std.proofs.Common.{◌≡◌, ℕ, zero, suc, ◌+◌, ◌≤◌, Bool, ◌⊎◌, List, [], ◌∷◌, ◌++◌, Some, None, Ok, Err, Option, Result, sym, refl, ap, ◌∙◌, inl, inr, arith}
 use Rattle.machine.specs.declared.states.Side.TheVariants as side
 use Rattle.machine.specs.declared.states.State.{State}
 use Rattle.machine.specs.declared.answers.Step.{Step}
@@ -20,29 +20,18 @@ counted_own t (made.Taken wait) = omega arith
 counted_own t (made.Made (side.Own)) = omega arith
 counted_own t (made.Made (side.Service)) = omega arith
 
+-- tallies with the same numbers are the same
+same_tally : (t u : Tally) → t.own ≡ u.own → t.service ≡ u.service → t.takings ≡ u.takings → t.wait ≡ u.wait → t ≡ u
+same_tally t u own service takings wait i = record { own = own i; service = service i; takings = takings i; wait = wait i }
+
 joined_none : (t : Tally) → t ≡ joined t no_steps
-joined_none t =
-    let a : t.own ≡ t.own + 0 = omega arith in
-    let b : t.service ≡ t.service + 0 = omega arith in
-    let c : t.takings ≡ t.takings + 0 = omega arith in
-    let d : t.wait ≡ max t.wait 0 = omega arith in
-    λ i. record { own = a i; service = b i; takings = c i; wait = d i }
+joined_none t = same_tally _ _ (omega arith) (omega arith) (omega arith) (omega arith)
 
 none_joined : (t : Tally) → t ≡ joined no_steps t
-none_joined t =
-    let a : t.own ≡ 0 + t.own = omega arith in
-    let b : t.service ≡ 0 + t.service = omega arith in
-    let c : t.takings ≡ 0 + t.takings = omega arith in
-    let d : t.wait ≡ max 0 t.wait = omega arith in
-    λ i. record { own = a i; service = b i; takings = c i; wait = d i }
+none_joined t = same_tally _ _ (omega arith) (omega arith) (omega arith) (omega arith)
 
 joined_then : (t u v : Tally) → joined (joined t u) v ≡ joined t (joined u v)
-joined_then t u v =
-    let a : t.own + u.own + v.own ≡ t.own + (u.own + v.own) = omega arith in
-    let b : t.service + u.service + v.service ≡ t.service + (u.service + v.service) = omega arith in
-    let c : t.takings + u.takings + v.takings ≡ t.takings + (u.takings + v.takings) = omega arith in
-    let d : max (max t.wait u.wait) v.wait ≡ max t.wait (max u.wait v.wait) = omega arith in
-    cc
+joined_then t u v = same_tally _ _ (omega arith) (omega arith) (omega arith) (omega arith)
 
 tally_append : (xs ys : List Event) → tally_of (xs ++ ys) ≡ joined (tally_of xs) (tally_of ys)
 tally_append [] ys = none_joined (tally_of ys)
@@ -67,25 +56,10 @@ abbrev Quiet : Option ℕ → Tally → Type 0
 Quiet pending t = (pending ≡ None) ⊎ (t.wait ≡ 0)
 
 counted_joined : (t u : Tally) (a : Step) (p q : Option ℕ) → Quiet p t → Pends p (Ok a) q → joined (counted t a) u ≡ joined t (joined (tallied (Ok a)) u)
-counted_joined t u (made.Taken wait) p q (inl h) k = let e = k.0 in let z : ◌≡◌ {A = ℕ} 0 1 = cc in absurd (omega arith)
-counted_joined t u (made.Taken wait) p q (inr h) k =
-    let a : t.own + u.own ≡ t.own + (0 + u.own) = omega arith in
-    let b : t.service + u.service ≡ t.service + (0 + u.service) = omega arith in
-    let c : t.takings + 1 + u.takings ≡ t.takings + (1 + u.takings) = omega arith in
-    let d : max wait u.wait ≡ max t.wait (max wait u.wait) = omega arith in
-    cc
-counted_joined t u (made.Made (side.Own)) p q h k =
-    let a : t.own + 1 + u.own ≡ t.own + (1 + u.own) = omega arith in
-    let b : t.service + u.service ≡ t.service + (0 + u.service) = omega arith in
-    let c : t.takings + u.takings ≡ t.takings + (0 + u.takings) = omega arith in
-    let d : max t.wait u.wait ≡ max t.wait (max 0 u.wait) = omega arith in
-    cc
-counted_joined t u (made.Made (side.Service)) p q h k =
-    let a : t.own + u.own ≡ t.own + (0 + u.own) = omega arith in
-    let b : t.service + 1 + u.service ≡ t.service + (1 + u.service) = omega arith in
-    let c : t.takings + u.takings ≡ t.takings + (0 + u.takings) = omega arith in
-    let d : max t.wait u.wait ≡ max t.wait (max 0 u.wait) = omega arith in
-    cc
+counted_joined t u (made.Taken wait) p q (inl h) k = let e = k.0 in cc
+counted_joined t u (made.Taken wait) p q (inr h) k = same_tally _ _ (omega arith) (omega arith) (omega arith) (omega arith)
+counted_joined t u (made.Made (side.Own)) p q h k = same_tally _ _ (omega arith) (omega arith) (omega arith) (omega arith)
+counted_joined t u (made.Made (side.Service)) p q h k = same_tally _ _ (omega arith) (omega arith) (omega arith) (omega arith)
 
 quiet_after : (t : Tally) (a : Step) (p q : Option ℕ) → Quiet p t → Pends p (Ok a) q → Quiet q (counted t a)
 quiet_after t (made.Taken wait) p q h k = inl k.1

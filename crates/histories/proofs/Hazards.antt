@@ -13,8 +13,6 @@ use Rattle.operations.specs.declared.values.Effect.TheVariants as effect
 use Rattle.operations.specs.Arithmetic.{following}
 use Rattle.machine.specs.declared.states.Side.{Side}
 use Rattle.machine.specs.declared.states.Side.TheVariants as side
-use Rattle.machine.specs.declared.states.Service.{Service}
-use Rattle.machine.specs.declared.states.Service.TheVariants as service
 use Rattle.machine.specs.declared.states.Layout.{Layout}
 use Rattle.machine.specs.declared.states.State.{State}
 use Rattle.machine.specs.declared.states.Plan.{Plan}
@@ -24,7 +22,6 @@ use Rattle.machine.specs.Layouts.{placed}
 use Rattle.machine.specs.Checks.{closes, hazard, operands, planned}
 use Rattle.machine.specs.Steps.{written, after, bytes_after, taking, stepped, asked}
 use Rattle.machine.specs.Loads.{fresh}
-use Rattle.machine.proofs.Lawful.{clash}
 use Rattle.machine.proofs.Ways.{Due, Refusing, ways, settles}
 use Rattle.histories.specs.declared.actions.Action.{Action}
 use Rattle.histories.specs.Texts.{jump_reading, InProgram, NoHazard}
@@ -33,15 +30,15 @@ use Rattle.histories.specs.Laws.{own_word, last_own, Jumped, HazardsFollowJumps}
 use Rattle.histories.proofs.Watching.{over, Watch, watched, watch_at}
 use Rattle.histories.proofs.Kept.{Laid, laid}
 use Rattle.histories.proofs.Housed.{Housed, lawful_at, housed_fresh, housed_asked, housed_taken, housed_run, placed_own, as_loaded}
-use Rattle.histories.proofs.Bounded.{closed_open, closed_still}
+use Rattle.histories.proofs.Bounded.{closed_still}
 use Rattle.histories.proofs.Words.{Goes, facts}
 use Rattle.histories.proofs.Reasons.{in_hazard}
 use Rattle.histories.proofs.Homing.{home_again}
 
 -- where the program goes on when no service is open
-abbrev home_of : ℕ → Service → ℕ
-home_of c (service.Closed) = c
-home_of c (service.Open copies) = get_or copies 14 0
+abbrev home_of : ℕ → Option (List ℕ) → ℕ
+home_of c None = c
+home_of c (Some copies) = get_or copies 14 0
 
 no_hazard_of_none : (r n : ℕ) → n ≡ 0 → hazard r n ≡ true → ⊥
 no_hazard_of_none r n e h = grind (arith, nat_tests)
@@ -64,7 +61,7 @@ module _ (l : Layout) (laid : Laid l) (b₀ : ℕ → ℕ) (apart : NoHazard l b
   pub record Careful (w : Option ℕ) (s : State) (b : ℕ → ℕ) : Type 0 where
     pub housed : Housed l b₀ s b
     pub long : length s.registers ≡ 16
-    pub copied : (copies : List ℕ) → s.service ≡ service.Open copies → Copied copies
+    pub copied : (copies : List ℕ) → s.service ≡ Some copies → Copied copies
     pub last : Last w s.made (home_of s.counter s.service)
 
   -- what is claimed of an event
@@ -105,8 +102,8 @@ module _ (l : Layout) (laid : Laid l) (b₀ : ℕ → ℕ) (apart : NoHazard l b
 
     -- a refusal for a hazard on the own side
     refusing : (d : Side) (f : Refusal) → Due s d → Refusing s b d f → f ≡ refusal.Hazard → d ≡ side.Own → Jumped w
-    refusing (side.Service) f due why ef ed = let z : ◌≡◌ {A = ℕ} 0 1 = cc in absurd (omega arith)
-    refusing (side.Own) f due (inl x) ef ed = let z : ◌≡◌ {A = ℕ} 0 1 = cc in absurd (omega arith)
+    refusing (side.Service) f due why ef ed = cc
+    refusing (side.Own) f due (inl x) ef ed = cc
     refusing (side.Own) f due (inr x) ef ed =
         let c = s.counter in
         let y = in_hazard s side.Own (closes s side.Own (word_at b c)) (word_at b c) (x.1 ∙ ap Err ef) in
@@ -119,7 +116,7 @@ module _ (l : Layout) (laid : Laid l) (b₀ : ℕ → ℕ) (apart : NoHazard l b
           | passed a i before reads e next ↦
               let eq : a + 2 ≡ c = next ∙ at in
               let safe = apart a before (subst (InProgram l) (sym eq) here) i y.instruction reads (ap (λ z. read_word (word_at b₀ z)) eq ∙ sym (ap read_word word) ∙ y.reads) in
-              clash (sym y.is ∙ ap (hazard (late y.instruction)) e ∙ safe)
+              cc (y.is, e, safe)
         ]
 
     -- an own word that was made
@@ -138,11 +135,11 @@ module _ (l : Layout) (laid : Laid l) (b₀ : ℕ → ℕ) (apart : NoHazard l b
     runs (side.Own) p due stood e =
         let t = settles s b side.Own p p.effect in
         let s' = after s b side.Own p p.effect in
-        let shut : s'.service ≡ service.Closed = ap (λ x. x.service) t.is ∙ closed_still p.closes s.service due.0 in
+        let shut : s'.service ≡ None = ap (λ x. x.service) t.is ∙ closed_still p.closes s.service due.0 in
         record {
           housed = housed_run l laid b₀ s b h.housed o side.Own p e;
           long = long_after side.Own p;
-          copied = λ copies k. closed_open s'.service copies shut k;
+          copied = λ copies k. cc;
           last = subst (λ x. Last (Some (word_at b s.counter)) x (home_of s'.counter s'.service)) (sym (ap (λ x. x.made) t.is))
               (subst (λ v. Last (Some (word_at b s.counter)) (result p.instruction) (home_of s'.counter v)) (sym shut) (own_last p stood e));
         }
@@ -153,14 +150,14 @@ module _ (l : Layout) (laid : Laid l) (b₀ : ℕ → ℕ) (apart : NoHazard l b
         let es = due.1 in
         let x = h.copied copies es in
         let y = lawful_at s side.Service (word_at b s.counter) p e in
-        let by : (q : Bool) → p.closes ≡ q → (s'.service ≡ cond q service.Closed s.service) → home_of s'.counter s'.service ≡ get_or copies 14 0 =
-        λ q. elim q as (λ q. p.closes ≡ q → (s'.service ≡ cond q service.Closed s.service) → home_of s'.counter s'.service ≡ get_or copies 14 0) [
+        let by : (q : Bool) → p.closes ≡ q → (s'.service ≡ cond q None s.service) → home_of s'.counter s'.service ≡ get_or copies 14 0 =
+        λ q. elim q as (λ q. p.closes ≡ q → (s'.service ≡ cond q None s.service) → home_of s'.counter s'.service ≡ get_or copies 14 0) [
           | true ↦ λ k v. ap (home_of s'.counter) v ∙ home_again s copies es (word_at b s.counter) p y k x.even x.bound b
           | false ↦ λ k v. ap (home_of s'.counter) (v ∙ es)
         ] in
-        let same : (q : Bool) → (s'.service ≡ cond q service.Closed s.service) → (kept : List ℕ) → s'.service ≡ service.Open kept → Copied kept =
-        λ q. elim q as (λ q. (s'.service ≡ cond q service.Closed s.service) → (kept : List ℕ) → s'.service ≡ service.Open kept → Copied kept) [
-          | true ↦ λ v kept k. closed_open s'.service kept v k
+        let same : (q : Bool) → (s'.service ≡ cond q None s.service) → (kept : List ℕ) → s'.service ≡ Some kept → Copied kept =
+        λ q. elim q as (λ q. (s'.service ≡ cond q None s.service) → (kept : List ℕ) → s'.service ≡ Some kept → Copied kept) [
+          | true ↦ λ v kept k. cc
           | false ↦ λ v kept k. h.copied kept (sym v ∙ k)
         ] in
         record {
@@ -171,7 +168,7 @@ module _ (l : Layout) (laid : Laid l) (b₀ : ℕ → ℕ) (apart : NoHazard l b
               (subst (Last w s.made) (ap (home_of s.counter) es ∙ sym (by p.closes refl (ap (λ x. x.service) t.is))) h.last);
         }
 
-    takes : s.service ≡ service.Closed → Careful w (taking s) b
+    takes : s.service ≡ None → Careful w (taking s) b
     takes shut =
         let size = h.long in
         let there : get_or (set s.registers 14 s.counter) 14 0 ≡ s.counter = get_or-set_same s.registers 14 s.counter 0 (omega arith) in
@@ -211,6 +208,6 @@ hazards_follow_jumps l size fit m apart actions =
     after_jumps l (laid l size fit) m.byte apart m.mark (fresh l) (record {
       housed = housed_fresh l m.byte;
       long = refl;
-      copied = λ copies k. closed_open service.Closed copies refl k;
+      copied = λ copies k. cc;
       last = none refl;
     }) actions

@@ -1,10 +1,9 @@
 -- The word that closes a service goes back to the counter that was kept, and every register is as it was.
-use Rattle.std.proofs.Common.{◌≡◌, ℕ, ◌+◌, ◌*◌, ◌/◌, ◌%◌, ◌<◌, ◌≤◌, true, List, length, get_or, sym, refl, ap, ◌∙◌, inl, inr, arith}
-use Rattle.std.proofs.lemmas.List.{get_or_default, same_lists}
+use Rattle.std.proofs.Common.{◌≡◌, ℕ, ◌+◌, ◌*◌, ◌/◌, ◌%◌, ◌<◌, ◌≤◌, true, List, length, get_or, sym, refl, ap, ◌∙◌, inl, inr, arith, Some}
+use Rattle.std.proofs.lemmas.Grind.{same_number_lists}
 use Rattle.std.proofs.lemmas.Bool.{cases_eq}
 use Rattle.isa.specs.Words.{read_word}
 use Rattle.machine.specs.declared.states.Side.TheVariants as side
-use Rattle.machine.specs.declared.states.Service.TheVariants as service
 use Rattle.machine.specs.declared.states.State.{State}
 use Rattle.machine.specs.declared.states.Plan.{Plan}
 use Rattle.machine.specs.Checks.{closes}
@@ -16,18 +15,15 @@ use Rattle.machine.proofs.Closing.{keeps_all, closed_state}
 same_sixteen : (xs ys : List ℕ) → length xs ≡ 16 → length ys ≡ 16 → get_or xs 0 0 ≡ get_or ys 0 0
     → ((k : ℕ) → 1 ≤ k → k ≤ 15 → get_or xs k 0 ≡ get_or ys k 0) → xs ≡ ys
 same_sixteen xs ys lx ly z h =
-    same_lists xs ys (lx ∙ sym ly) (λ k d l.
-    get_or_default xs k d 0 l
-    ∙ elim (cases_eq k 0) [
-      | inl e ↦ ap (λ j. get_or xs j 0) e ∙ z ∙ sym (ap (λ j. get_or ys j 0) e)
+    same_number_lists xs ys (lx ∙ sym ly) (λ k l. elim (cases_eq k 0) [
+      | inl e ↦ cc
       | inr e ↦ h k (omega arith) (omega arith)
-    ]
-    ∙ get_or_default ys k 0 d (omega arith))
+    ])
 
 back_again : (next r n : ℕ) → next ≡ (r + 0) % 65536 / 2 * 2 → r ≡ n → n % 2 ≡ 0 → n < 65536 → next ≡ n
 back_again next r n a b c d = omega arith
 
-module _ (s : State) (copies : List ℕ) (es : s.service ≡ service.Open copies) (w : ℕ) (p : Plan)
+module _ (s : State) (copies : List ℕ) (es : s.service ≡ Some copies) (w : ℕ) (p : Plan)
     (l : Lawful s side.Service (closes s side.Service w) (read_word w) p) (shut : p.closes ≡ true) where
   pub gives_all_back : length s.registers ≡ 16 → length copies ≡ 16 → get_or s.registers 0 0 ≡ get_or copies 0 0 → s.registers ≡ copies
   gives_all_back lx ly z = same_sixteen s.registers copies lx ly z (keeps_all s copies es w p l shut)

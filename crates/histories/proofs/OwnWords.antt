@@ -1,5 +1,6 @@
 -- An own step of the first core beside the same step of its twin.
-use Rattle.std.proofs.Common.{◌≡◌, ℕ, ◌%◌, ◌<◌, Bool, true, false, cond, not, eqb, Some, None, Ok, Err, Option, Result, sym, refl, ap, ◌∙◌, subst, arith}
+use Rattle.std.proofs.Common.{◌≡◌, ℕ, ◌%◌, ◌<◌, Bool, true, false, cond, not, eqb, Some, None, Ok, Err, Option, Result, sym, refl, ap, ◌∙◌, subst, arith, List}
+use Rattle.std.proofs.lemmas.Bool.{not-true}
 use Rattle.std.proofs.lemmas.Bool.Decides.{nat_tests}
 use Rattle.isa.specs.declared.refusals.Refusal.{Refusal}
 use Rattle.isa.specs.declared.refusals.Refusal.TheVariants as refusal
@@ -11,8 +12,6 @@ use Rattle.operations.specs.declared.values.Effect.TheVariants as effect
 use Rattle.operations.specs.Arithmetic.{following}
 use Rattle.operations.specs.Forerunners.{is_sum}
 use Rattle.machine.specs.declared.states.Side.TheVariants as side
-use Rattle.machine.specs.declared.states.Service.{Service}
-use Rattle.machine.specs.declared.states.Service.TheVariants as service
 use Rattle.machine.specs.declared.states.State.{State}
 use Rattle.machine.specs.declared.states.Plan.{Plan}
 use Rattle.machine.specs.declared.answers.Step.{Step}
@@ -20,10 +19,11 @@ use Rattle.machine.specs.declared.answers.Step.TheVariants as made
 use Rattle.machine.specs.declared.answers.StepRefusal.{StepRefusal}
 use Rattle.machine.specs.Layouts.{inside, placed, is_odd, is_io, trespasses}
 use Rattle.machine.specs.Checks.{closes, operands, planned}
-use Rattle.machine.specs.Steps.{waited, written, left_behind, settled, loaded, stored_as, after, bytes_after, Outcome, refused, applied, performed}
-use Rattle.machine.proofs.Lawful.{Lawful, clash, EvenNext, even_next}
+use Rattle.machine.specs.Steps.{waited, written, left_behind, settled, loaded, stored_as, after, bytes_after, Outcome, applied, found, performed}
+use Rattle.machine.proofs.Lawful.{Lawful, EvenNext, even_next}
+use Rattle.machine.proofs.Ways.{stands}
 use Rattle.histories.specs.Texts.{InProgram, NoExtended}
-use Rattle.histories.proofs.Kept.{below_devices, unextended_kept, text_after}
+use Rattle.histories.proofs.Kept.{below_devices, unextended_after}
 use Rattle.histories.proofs.Housed.{lawful_at}
 use Rattle.histories.proofs.Bounded.{closed_still}
 use Rattle.histories.proofs.Hazards.{length_written}
@@ -42,13 +42,9 @@ After s b t c y (Err f) = Sim s b t c × (f.side ≡ side.Own → y.answer ≡ E
 abbrev pub Beside : State → (ℕ → ℕ) → Outcome → Outcome → Type 0
 Beside t c y x = After x.state x.bytes t c y x.answer
 
-not_interlocked : (k : Bool) → not k ≡ true → k ≡ false
-not_interlocked true h = clash (sym h)
-not_interlocked false h = refl
-
 -- An own word that both make
 
-module _ (s : State) (b : ℕ → ℕ) (t : State) (c : ℕ → ℕ) (m : Sim s b t c) (es : s.service ≡ service.Closed) (st : Together s t) where
+module _ (s : State) (b : ℕ → ℕ) (t : State) (c : ℕ → ℕ) (m : Sim s b t c) (es : s.service ≡ None) (st : Together s t) where
   sim_settled : (p : Plan) (value value' next next' : ℕ) (prefix : Option ℕ) (b' c' : ℕ → ℕ)
       → eqb (result p.instruction) 14 ≡ false → value ≡ value' → next ≡ next' → next' % 2 ≡ 0 → next' < 65536
       → (not (interlocked p.instruction) ≡ true → prefix ≡ None) → Outside s.layout b' c' → NoExtended s.layout b'
@@ -57,7 +53,7 @@ module _ (s : State) (b : ℕ → ℕ) (t : State) (c : ℕ → ℕ) (m : Sim s 
   sim_settled p value value' next next' prefix b' c' free ev en even bound ready out plain clear =
       let s' = settled s side.Own p value next prefix in
       let t' = settled t side.Own p value' next' prefix in
-      let P : Service → Type 0 = λ v. Standing s' v t' in
+      let P : Option (List ℕ) → Type 0 = λ v. Standing s' v t' in
       let r = result p.instruction in
       let together : Together s' t' = record {
         counter = en;
@@ -93,12 +89,11 @@ module _ (s : State) (b : ℕ → ℕ) (t : State) (c : ℕ → ℕ) (m : Sim s 
     goes_even = let h = m.even in omega arith
 
     plain_after : (e : Effect) → p.effect ≡ e → NoExtended s.layout (bytes_after b o e)
-    plain_after e ee = subst (λ x. NoExtended s.layout (bytes_after b o x)) ee
-        (unextended_kept s.layout b (bytes_after b o p.effect) m.laid (text_after s b o side.Own (closes s side.Own w) (read_word w) p m.laid l) m.plain)
+    plain_after = unextended_after s b o side.Own (closes s side.Own w) (read_word w) p m.laid l m.plain
 
     clear : not (interlocked p.instruction) ≡ true → is_sum (left_behind p.leaves s.forerunner) ≡ false
     clear h = ap (λ x. is_sum (left_behind x s.forerunner)) l.leaves
-        ∙ (facts p.instruction).unsummed (not_interlocked (interlocked p.instruction) h) (operands s p.instruction) s.forerunner
+        ∙ (facts p.instruction).unsummed (not-true (interlocked p.instruction) h) (operands s p.instruction) s.forerunner
 
     own_made : (e : Effect) → p.effect ≡ e → Sim (after s b side.Own p e) (bytes_after b o e) (after t c side.Own p e) (bytes_after c o' e)
     own_made (effect.Put value next) ee =
@@ -118,38 +113,32 @@ module _ (s : State) (b : ℕ → ℕ) (t : State) (c : ℕ → ℕ) (m : Sim s 
         let held : interlocked p.instruction ≡ true =
         subst (Goes p.instruction s.counter) (sym l.effect ∙ ee) ((facts p.instruction).goes (operands s p.instruction)) in
         sim_settled p 0 0 (following s.counter) (following t.counter) (Some h) b c
-        free refl onward goes_even (omega arith) (λ r. clash (sym r ∙ ap not held)) m.outside m.plain clear
+        free refl onward goes_even (omega arith) (λ r. cc (ap not held)) m.outside m.plain clear
 
   module _ (o o' : ℕ → Bool) (marks : SameMarks o o') where
     abbrev w : ℕ
     w = word_at b s.counter
 
-    refuses : (f : Refusal) → Beside t c (refused t c side.Own f) (refused s b side.Own f)
-    refuses f = (m, λ _. ap (λ n. Err (record { refusal = f; address = n; side = side.Own })) (sym st.counter))
+    own_applied : (r : Result Plan Refusal) → found s b side.Own ≡ r → Beside t c (applied t c o' side.Own r) (applied s b o side.Own r)
+    own_applied (Err f) e = (m, λ _. ap (λ n. Err (record { refusal = f; address = n; side = side.Own })) (sym st.counter))
+    own_applied (Ok p) e = (refl, own_made o o' marks w p (lawful_at s side.Own w p (stands s b side.Own p e).1) p.effect refl)
 
-    own_applied : (r : Result Plan Refusal) → planned s side.Own w ≡ r → Beside t c (applied t c o' side.Own r) (applied s b o side.Own r)
-    own_applied (Err f) e = refuses f
-    own_applied (Ok p) e = (refl, own_made o o' marks w p (lawful_at s side.Own w p e) p.effect refl)
-
-    own_placed : (q : Bool) → placed s.layout side.Own s.counter ≡ q
-        → Beside t c (cond q (applied t c o' side.Own (planned t side.Own (word_at c t.counter))) (refused t c side.Own refusal.Astray))
-        (cond q (applied s b o side.Own (planned s side.Own w)) (refused s b side.Own refusal.Astray))
-    own_placed false e = refuses refusal.Astray
-    own_placed true e =
+    same_found : (q : Bool) → placed s.layout side.Own s.counter ≡ q
+        → cond q (planned s side.Own w) (Err refusal.Astray) ≡ cond q (planned t side.Own (word_at c t.counter)) (Err refusal.Astray)
+    same_found false e = refl
+    same_found true e =
         let apart : inside s.layout s.counter ≡ false = grind (arith, nat_tests) in
         let below : s.counter < s.layout.text = grind (arith, nat_tests) in
         let top = m.laid.text in
         let whole : s.counter % 2 ≡ 0 = ap (λ n. n % 2) st.counter ∙ m.even in
         let ew = same_word s.layout b c s.counter m.laid m.outside whole (omega arith) apart ∙ ap (word_at c) st.counter in
         let here : InProgram s.layout s.counter = record { even = whole; text = below; apart = apart } in
-        let ep = same_plan s t m.layout es m.alone m.made st w (m.plain s.counter here) ∙ ap (planned t side.Own) ew in
-        let P : Result Plan Refusal → Type 0 = λ r. Beside t c (applied t c o' side.Own r) (applied s b o side.Own (planned s side.Own w)) in
-        subst P ep (own_applied (planned s side.Own w) refl)
+        same_plan s t m.layout es m.alone m.made st w (m.plain s.counter here) ∙ ap (planned t side.Own) ew
 
     pub own_step : Beside t c (performed t c o' side.Own) (performed s b o side.Own)
     own_step =
         let same : placed s.layout side.Own s.counter ≡ placed t.layout side.Own t.counter =
         ap (placed s.layout side.Own) st.counter ∙ ap (λ l. placed l side.Own t.counter) m.layout in
-        let P : Bool → Type 0 =
-        λ q. Beside t c (cond q (applied t c o' side.Own (planned t side.Own (word_at c t.counter))) (refused t c side.Own refusal.Astray)) (performed s b o side.Own) in
-        subst P same (own_placed (placed s.layout side.Own s.counter) refl)
+        let P : Result Plan Refusal → Type 0 = λ r. Beside t c (applied t c o' side.Own r) (performed s b o side.Own) in
+        subst P (same_found (placed s.layout side.Own s.counter) refl
+        ∙ ap (λ q. cond q (planned t side.Own (word_at c t.counter)) (Err refusal.Astray)) same) (own_applied (found s b side.Own) refl)

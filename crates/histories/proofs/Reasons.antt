@@ -1,5 +1,5 @@
 -- A step that is refused for a hazard was in hazard.
-use Rattle.std.proofs.Common.{◌≡◌, ℕ, zero, suc, ◌/◌, ◌%◌, Bool, true, false, cond, ◌&&◌, eqb, ltb, List, [], ◌∷◌, get_or, Some, None, Ok, Err, Option, Result, refl, ap, ◌∙◌, arith}
+use Rattle.std.proofs.Common.{◌≡◌, ℕ, zero, suc, ◌/◌, ◌%◌, Bool, true, false, cond, ◌&&◌, eqb, ltb, List, [], ◌∷◌, get_or, Ok, Err, Result, refl, ap}
 use Rattle.isa.specs.declared.refusals.Refusal.{Refusal}
 use Rattle.isa.specs.declared.refusals.Refusal.TheVariants as refusal
 use Rattle.isa.specs.declared.instructions.RegisterFunction.TheVariants.{And, Or, Xor, Andn, Adc, Sbc}
@@ -16,7 +16,6 @@ use Rattle.operations.specs.Forerunners.{lacks}
 use Rattle.operations.specs.Operations.{miscounts}
 use Rattle.machine.specs.Layouts.{is_own, is_odd, is_io, trespasses}
 use Rattle.machine.specs.Checks.{last, hazard, owing, operands, effect_in, checks, first_failed, unless_refused, plan_of}
-use Rattle.machine.proofs.Lawful.{clash}
 
 -- A word that reads as nothing is unknown
 
@@ -79,22 +78,22 @@ abbrev Others : List (Refusal × Bool) → Type 0
 Others [] = Unit {0}
 Others (x ∷ xs) = (eqb (refusal_number x.0) 20 ≡ false) × Others xs
 
-other : (r : Refusal) (q : Bool) (rest : Option Refusal) → eqb (refusal_number r) 20 ≡ false → (rest ≡ Some refusal.Hazard → ⊥) → cond q (Some r) rest ≡ Some refusal.Hazard → ⊥
-other r true rest h k e = let same : refusal.Hazard ≡ r = cc in clash (ap (λ x. eqb (refusal_number x) 20) same ∙ h)
+other : (r : Refusal) (q : Bool) (rest : Result Unit Refusal) → eqb (refusal_number r) 20 ≡ false → (rest ≡ Err refusal.Hazard → ⊥) → cond q (Err r) rest ≡ Err refusal.Hazard → ⊥
+other r true rest h k e = let same : refusal.Hazard ≡ r = cc in cc (ap (λ x. eqb (refusal_number x) 20) same, h)
 other r false rest h k e = k e
 
-others : (xs : List (Refusal × Bool)) → Others xs → first_failed xs ≡ Some refusal.Hazard → ⊥
-others [] h e = let z : ◌≡◌ {A = ℕ} 0 1 = cc in omega arith
+others : (xs : List (Refusal × Bool)) → Others xs → first_failed xs ≡ Err refusal.Hazard → ⊥
+others [] h e = cc
 others (x ∷ xs) h e = other x.0 x.1 (first_failed xs) h.0 (others xs h.1) e
 
-second : (q r : Bool) (rest : List (Refusal × Bool)) → Others rest → first_failed ((refusal.Reserved, q) ∷ (refusal.Hazard, r) ∷ rest) ≡ Some refusal.Hazard → r ≡ true
-second true r rest h e = let z : ◌≡◌ {A = ℕ} 0 1 = cc in absurd (omega arith)
+second : (q r : Bool) (rest : List (Refusal × Bool)) → Others rest → first_failed ((refusal.Reserved, q) ∷ (refusal.Hazard, r) ∷ rest) ≡ Err refusal.Hazard → r ≡ true
+second true r rest h e = cc
 second false true rest h e = refl
 second false false rest h e = absurd (others rest h e)
 
-failed : (f : Option Refusal) (p : Plan) (r : Refusal) → unless_refused f p ≡ Err r → f ≡ Some r
-failed None p r h = let z : ◌≡◌ {A = ℕ} 0 1 = cc in absurd (omega arith)
-failed (Some f) p r h = cc
+failed : (f : Result Unit Refusal) (p : Plan) (r : Refusal) → unless_refused f p ≡ Err r → f ≡ Err r
+failed (Ok passed) p r h = cc
+failed (Err f) p r h = cc
 
 pub record InHazard (w last : ℕ) : Type 0 where
   pub instruction : Instruction
@@ -103,7 +102,7 @@ pub record InHazard (w last : ℕ) : Type 0 where
 
 in_hazard_by : (s : State) (d : Side) (closing : Bool) (w : ℕ) (r : Result Instruction Refusal) → OnlyUnknown r → read_word w ≡ r
     → plan_of s d closing r ≡ Err refusal.Hazard → InHazard w (last s d)
-in_hazard_by s d closing w (Err e) u er h = let z : ◌≡◌ {A = ℕ} 0 1 = cc in absurd (omega arith)
+in_hazard_by s d closing w (Err e) u er h = cc
 in_hazard_by s d closing w (Ok i) u er h =
     let f = effect_in s i in
     let rest : List (Refusal × Bool) =

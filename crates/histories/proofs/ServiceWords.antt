@@ -2,7 +2,6 @@
 use Rattle.std.proofs.Common.{◌≡◌, ℕ, ◌+◌, ◌*◌, ◌/◌, ◌%◌, Bool, true, false, cond, ◌≢◌, List, get_or, set, Some, None, Ok, Err, Option, Result, sym, refl, ap, ◌∙◌, subst, arith, length-set}
 use Rattle.std.proofs.lemmas.List.{get_or-set_same, get_or-set_other, set-set}
 use Rattle.isa.specs.declared.refusals.Refusal.{Refusal}
-use Rattle.isa.specs.declared.refusals.Refusal.TheVariants as refusal
 use Rattle.isa.specs.Registers.{result}
 use Rattle.isa.specs.Words.{read_word}
 use Rattle.memory.specs.Words.{word_at}
@@ -13,18 +12,17 @@ use Rattle.operations.specs.Arithmetic.{following}
 use Rattle.operations.specs.Forerunners.{is_sum}
 use Rattle.operations.specs.Operations.{leaves}
 use Rattle.machine.specs.declared.states.Side.TheVariants as side
-use Rattle.machine.specs.declared.states.Service.{Service}
-use Rattle.machine.specs.declared.states.Service.TheVariants as service
 use Rattle.machine.specs.declared.states.State.{State}
 use Rattle.machine.specs.declared.states.Plan.{Plan}
-use Rattle.machine.specs.Layouts.{placed, is_odd, is_io, trespasses}
-use Rattle.machine.specs.Checks.{closes, operands, planned}
-use Rattle.machine.specs.Steps.{written, left_behind, settled, stored_as, after, bytes_after, Outcome, refused, applied, performed, taking, stepped_by, stepped}
+use Rattle.machine.specs.Layouts.{is_odd, is_io, trespasses}
+use Rattle.machine.specs.Checks.{closes, operands}
+use Rattle.machine.specs.Steps.{written, left_behind, settled, stored_as, after, bytes_after, Outcome, applied, found, performed, taking, stepped_by, stepped}
 use Rattle.machine.proofs.Lawful.{Lawful}
 use Rattle.machine.proofs.Stores.{service_range}
 use Rattle.machine.proofs.Closing.{closing_word, leaps_back}
+use Rattle.machine.proofs.Ways.{stands}
 use Rattle.histories.specs.Texts.{NoExtended}
-use Rattle.histories.proofs.Kept.{unextended_kept, text_after}
+use Rattle.histories.proofs.Kept.{unextended_after}
 use Rattle.histories.proofs.Housed.{lawful_at}
 use Rattle.histories.proofs.Hazards.{length_written}
 use Rattle.histories.proofs.Words.{Fore, sums_alike}
@@ -32,15 +30,15 @@ use Rattle.histories.proofs.Homing.{gives_all_back, home_again}
 use Rattle.histories.proofs.Sides.{Outside, SameMarks, rest, Together, Away, Standing, Sim, zero_written}
 use Rattle.histories.proofs.OwnWords.{Beside, own_step}
 
-module _ (s : State) (b : ℕ → ℕ) (t : State) (c : ℕ → ℕ) (m : Sim s b t c) (copies : List ℕ) (es : s.service ≡ service.Open copies) (st : Away copies t) where
+module _ (s : State) (b : ℕ → ℕ) (t : State) (c : ℕ → ℕ) (m : Sim s b t c) (copies : List ℕ) (es : s.service ≡ Some copies) (st : Away copies t) where
   -- a service word leaves the twin beside the first, and so does the closing one if it puts all back
   served : (p : Plan) (value next : ℕ) (prefix : Option ℕ) (b' : ℕ → ℕ) → Outside s.layout b' c → NoExtended s.layout b'
       → (p.closes ≡ true → Together (settled s side.Service p value next prefix) t) → Sim (settled s side.Service p value next prefix) b' t c
   served p value next prefix b' out plain shut =
       let s' = settled s side.Service p value next prefix in
-      let P : Service → Type 0 = λ v. Standing s' v t in
-      let by : (q : Bool) → p.closes ≡ q → Standing s' (cond q service.Closed s.service) t =
-      λ q e. elim q as (λ r. p.closes ≡ r → Standing s' (cond r service.Closed s.service) t) [
+      let P : Option (List ℕ) → Type 0 = λ v. Standing s' v t in
+      let by : (q : Bool) → p.closes ≡ q → Standing s' (cond q None s.service) t =
+      λ q e. elim q as (λ r. p.closes ≡ r → Standing s' (cond r None s.service) t) [
         | true ↦ λ h. shut h
         | false ↦ λ h. subst P (sym es) st
       ] e in
@@ -85,33 +83,23 @@ module _ (s : State) (b : ℕ → ℕ) (t : State) (c : ℕ → ℕ) (m : Sim s 
     keeps_open : {A : Type 0} (e : Effect) → p.effect ≡ e → ((value next : ℕ) → e ≡ effect.Put value next → ⊥) → p.closes ≡ true → A
     keeps_open e ee other h = absurd (other (following s.counter) ((get_or s.registers 14 0 + 0) % 65536 / 2 * 2) (sym ee ∙ leaps_back s copies es w p l h))
 
-    plain_served : (e : Effect) → p.effect ≡ e → NoExtended s.layout (bytes_after b o e)
-    plain_served e ee = subst (λ x. NoExtended s.layout (bytes_after b o x)) ee
-        (unextended_kept s.layout b (bytes_after b o p.effect) m.laid (text_after s b o side.Service (closes s side.Service w) (read_word w) p m.laid l) m.plain)
-
     serve_made : (e : Effect) → p.effect ≡ e → Sim (after s b side.Service p e) (bytes_after b o e) t c
     serve_made (effect.Put value next) ee = served p value next None b m.outside m.plain (puts_back value next ee)
     serve_made (effect.Load v a) ee =
-        served p _ _ None b m.outside m.plain (λ h. keeps_open (effect.Load v a) ee (λ x n k. let z : ◌≡◌ {A = ℕ} 0 1 = cc in omega arith) h)
+        served p _ _ None b m.outside m.plain (λ h. keeps_open (effect.Load v a) ee (λ x n k. cc) h)
     serve_made (effect.Store v a x) ee =
         let apart = service_range b o s.layout m.laid.high (effect.Store v a x) (sym (ap is_odd ee) ∙ l.even) (sym (ap is_io ee) ∙ l.memory)
         (sym (ap (trespasses s.layout side.Service) ee) ∙ l.allowed) in
         served p 0 _ None (stored_as b o v a x) (λ y small h. apart y h ∙ m.outside y small h)
-        (plain_served (effect.Store v a x) ee) (λ h. keeps_open (effect.Store v a x) ee (λ x n k. let z : ◌≡◌ {A = ℕ} 0 1 = cc in omega arith) h)
+        (unextended_after s b o side.Service (closes s side.Service w) (read_word w) p m.laid l m.plain (effect.Store v a x) ee) (λ h. keeps_open (effect.Store v a x) ee (λ x n k. cc) h)
     serve_made (effect.Hold x) ee =
-        served p 0 _ (Some x) b m.outside m.plain (λ h. keeps_open (effect.Hold x) ee (λ x n k. let z : ◌≡◌ {A = ℕ} 0 1 = cc in omega arith) h)
+        served p 0 _ (Some x) b m.outside m.plain (λ h. keeps_open (effect.Hold x) ee (λ x n k. cc) h)
 
-  not_own : {A : Type 0} → side.Service ≡ side.Own → A
-  not_own h = let k : ◌≡◌ {A = ℕ} 0 1 = cc in absurd (omega arith)
-
-  serve_applied : (o : ℕ → Bool) (y : Outcome) (w : ℕ) (r : Result Plan Refusal) → planned s side.Service w ≡ r → Beside t c y (applied s b o side.Service r)
-  serve_applied o y w (Err f) e = (m, not_own)
-  serve_applied o y w (Ok p) e = serve_made o w p (lawful_at s side.Service w p e) p.effect refl
-
-  service_placed : (o : ℕ → Bool) (y : Outcome) (q : Bool)
-      → Beside t c y (cond q (applied s b o side.Service (planned s side.Service (word_at b s.counter))) (refused s b side.Service refusal.Astray))
-  service_placed o y false = (m, not_own)
-  service_placed o y true = serve_applied o y (word_at b s.counter) (planned s side.Service (word_at b s.counter)) refl
+  serve_applied : (o : ℕ → Bool) (y : Outcome) (r : Result Plan Refusal) → found s b side.Service ≡ r → Beside t c y (applied s b o side.Service r)
+  serve_applied o y (Err f) e = (m, λ h. cc)
+  serve_applied o y (Ok p) e =
+      let w = word_at b s.counter in
+      serve_made o w p (lawful_at s side.Service w p (stands s b side.Service p e).1) p.effect refl
 
 -- a taking
 sim_taken : (s : State) (b : ℕ → ℕ) (t : State) (c : ℕ → ℕ) → Sim s b t c → Together s t → s.interruptible ≡ true → Sim (taking s) b t c
@@ -141,17 +129,17 @@ sim_taken s b t c m st ready =
       };
     }
 
-sim_step : (s : State) (b : ℕ → ℕ) (t : State) (c : ℕ → ℕ) (o o' : ℕ → Bool) (marks : SameMarks o o') (m : Sim s b t c) (v : Service) (n : Option ℕ) (r : Bool)
+sim_step : (s : State) (b : ℕ → ℕ) (t : State) (c : ℕ → ℕ) (o o' : ℕ → Bool) (marks : SameMarks o o') (m : Sim s b t c) (v : Option (List ℕ)) (n : Option ℕ) (r : Bool)
     → s.service ≡ v → s.interruptible ≡ r → Standing s v t → Beside t c (performed t c o' side.Own) (stepped_by s b o v n r)
-sim_step s b t c o o' marks m (service.Closed) None r ev er st = own_step s b t c m ev st o o' marks
-sim_step s b t c o o' marks m (service.Closed) (Some wait) true ev er st = sim_taken s b t c m st er
-sim_step s b t c o o' marks m (service.Closed) (Some wait) false ev er st = own_step s b t c m ev st o o' marks
-sim_step s b t c o o' marks m (service.Open copies) n r ev er st =
-    service_placed s b t c m copies ev st o (performed t c o' side.Own) (placed s.layout side.Service s.counter)
+sim_step s b t c o o' marks m None None r ev er st = own_step s b t c m ev st o o' marks
+sim_step s b t c o o' marks m None (Some wait) true ev er st = sim_taken s b t c m st er
+sim_step s b t c o o' marks m None (Some wait) false ev er st = own_step s b t c m ev st o o' marks
+sim_step s b t c o o' marks m (Some copies) n r ev er st =
+    serve_applied s b t c m copies ev st o (performed t c o' side.Own) (found s b side.Service) refl
 
-twin_steps : (t : State) (c : ℕ → ℕ) (o : ℕ → Bool) → t.service ≡ service.Closed → t.pending ≡ None → stepped t c o ≡ performed t c o side.Own
+twin_steps : (t : State) (c : ℕ → ℕ) (o : ℕ → Bool) → t.service ≡ None → t.pending ≡ None → stepped t c o ≡ performed t c o side.Own
 twin_steps t c o es ep =
-    ap (λ v. stepped_by t c o v t.pending t.interruptible) es ∙ ap (λ n. stepped_by t c o service.Closed n t.interruptible) ep
+    ap (λ v. stepped_by t c o v t.pending t.interruptible) es ∙ ap (λ n. stepped_by t c o None n t.interruptible) ep
 
 -- the step of the first core, made or refused, beside the step of its twin
 pub beside : (s : State) (b : ℕ → ℕ) (t : State) (c : ℕ → ℕ) (o o' : ℕ → Bool) → SameMarks o o' → Sim s b t c → Beside t c (stepped t c o') (stepped s b o)

@@ -1,5 +1,5 @@
 -- The first core beside its twin: what holds of the two at every moment.
-use Rattle.std.proofs.Common.{◌≡◌, ℕ, zero, suc, ◌+◌, ◌/◌, ◌%◌, ◌<◌, Bool, true, false, cond, ◌&&◌, eqb, ◌≢◌, List, length, get_or, set, None, sym, refl, ap, ◌∙◌, arith}
+use Rattle.std.proofs.Common.{◌≡◌, ℕ, zero, suc, ◌+◌, ◌/◌, ◌%◌, ◌<◌, Bool, true, false, cond, ◌&&◌, eqb, ◌≢◌, List, length, get_or, set, None, sym, refl, ap, ◌∙◌, arith, Some, Option}
 use Rattle.std.proofs.lemmas.List.{get_or-set_other, set_comm}
 use Rattle.std.proofs.lemmas.Bool.Decides.{nat_tests}
 use Rattle.memory.specs.Meaning.{stored}
@@ -7,14 +7,12 @@ use Rattle.memory.specs.Words.{word_at}
 use Rattle.operations.specs.declared.values.Width.{Width}
 use Rattle.operations.specs.declared.values.Width.TheVariants as width
 use Rattle.operations.specs.Forerunners.{is_sum}
-use Rattle.machine.specs.declared.states.Service.{Service}
-use Rattle.machine.specs.declared.states.Service.TheVariants as service
 use Rattle.machine.specs.declared.states.Layout.{Layout}
 use Rattle.machine.specs.declared.states.State.{State}
 use Rattle.machine.specs.Layouts.{inside, is_word}
 use Rattle.machine.specs.Steps.{memory_of, loaded, stored_as, written, asked}
 use Rattle.histories.specs.Texts.{NoExtended}
-use Rattle.histories.proofs.Kept.{Laid, word_even, inside_word}
+use Rattle.histories.proofs.Kept.{Laid, inside_word, same_pair, word_even}
 use Rattle.histories.proofs.Words.{Fore}
 
 -- the same bytes outside the service range
@@ -47,14 +45,14 @@ pub record Away (copies : List ℕ) (t : State) : Type 0 where
   pub zero : get_or copies 0 0 ≡ 0
   pub clear : is_sum t.forerunner ≡ false
 
-abbrev pub Standing : State → Service → State → Type 0
-Standing s (service.Closed) t = Together s t
-Standing s (service.Open copies) t = Away copies t
+abbrev pub Standing : State → Option (List ℕ) → State → Type 0
+Standing s None t = Together s t
+Standing s (Some copies) t = Away copies t
 
 pub record Sim (s : State) (b : ℕ → ℕ) (t : State) (c : ℕ → ℕ) : Type 0 where
   pub layout : s.layout ≡ t.layout
   pub laid : Laid s.layout
-  pub alone : t.service ≡ service.Closed
+  pub alone : t.service ≡ None
   pub quiet : t.pending ≡ None
   pub outside : Outside s.layout b c
   pub plain : NoExtended s.layout b
@@ -67,10 +65,10 @@ pub record Sim (s : State) (b : ℕ → ℕ) (t : State) (c : ℕ → ℕ) : Typ
 
 -- A request changes nothing of it
 
-standing_asked : (s t : State) (v : Service) → Standing s v t → Standing (asked s) v t
-standing_asked s t (service.Closed) h =
+standing_asked : (s t : State) (v : Option (List ℕ)) → Standing s v t → Standing (asked s) v t
+standing_asked s t None h =
     record { counter = h.counter; prefix = h.prefix; registers = h.registers; fore = h.fore; bare = h.bare; clear = h.clear }
-standing_asked s t (service.Open copies) h = h
+standing_asked s t (Some copies) h = h
 
 pub sim_asked : (s : State) (b : ℕ → ℕ) (t : State) (c : ℕ → ℕ) → Sim s b t c → Sim (asked s) b t c
 sim_asked s b t c m = record {
@@ -92,10 +90,7 @@ sim_asked s b t c m = record {
 
 pub same_word : (l : Layout) (b c : ℕ → ℕ) (a : ℕ) → Laid l → Outside l b c → a % 2 ≡ 0 → a < 65536 → inside l a ≡ false → word_at b a ≡ word_at c a
 same_word l b c a laid out even small h =
-    let next : (a + 1) % 65536 ≡ a + 1 = omega arith in
-    let x = out a small h in
-    let y = out (a + 1) (omega arith) (inside_word l a false laid even h) in
-    rw next (cc)
+    same_pair b c a (omega arith) (out a small h) (out (a + 1) (omega arith) (inside_word l a false laid even h))
 
 -- what is loaded from outside the range is the same
 pub same_loaded : (l : Layout) (b c : ℕ → ℕ) (w : Width) (a : ℕ) → Laid l → Outside l b c → (is_word w && eqb (a % 2) 1) ≡ false → a < 65536 → inside l a ≡ false

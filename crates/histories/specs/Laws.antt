@@ -4,7 +4,6 @@ use Rattle.isa.specs.declared.refusals.Refusal.TheVariants as refusal
 use Rattle.memory.specs.Meaning.{Meaning}
 use Rattle.machine.specs.declared.states.Layout.{Layout}
 use Rattle.machine.specs.declared.states.Side.TheVariants as side
-use Rattle.machine.specs.declared.states.Service.TheVariants as service
 use Rattle.machine.specs.declared.states.State.{State}
 use Rattle.machine.specs.declared.answers.Step.{Step}
 use Rattle.machine.specs.declared.answers.Step.TheVariants as made
@@ -14,7 +13,7 @@ use Rattle.machine.specs.Steps.{stepped}
 use Rattle.machine.specs.Loads.{fresh, fits}
 use Rattle.histories.specs.declared.actions.Action.{Action}
 use Rattle.histories.specs.Texts.{reads_jump, NoExtended, NoHazard, RunsWithin}
-use Rattle.histories.specs.Histories.{played, Event, request, step, history, tally_of}
+use Rattle.histories.specs.Histories.{played, Event, step, history, tally_of}
 
 -- n steps, each an own step that succeeds, and nothing else
 pub data Alone (o : ℕ → Bool) : ℕ → State → (ℕ → ℕ) → State → (ℕ → ℕ) → Type 0 where
@@ -37,7 +36,7 @@ OwnStep (Err refusal) = refusal.side ≡ side.Own
 -- a core beside its twin: where no service is open the program states are the same, and an own step answers alike in both, a refused one
 -- with the same number, address and side
 pub record Undisturbed (o : ℕ → Bool) (s : State) (b : ℕ → ℕ) (p : ℕ → Bool) (t : State) (c : ℕ → ℕ) : Type 0 where
-  pub same : s.service ≡ service.Closed → SameProgram s b t c
+  pub same : s.service ≡ None → SameProgram s b t c
   pub alike : OwnStep (stepped s b o).answer → (stepped t c p).answer ≡ (stepped s b o).answer
 
 -- two memories with the same byte and the same mark at every address
@@ -69,11 +68,8 @@ WaitsAreBounded = (longest : ℕ) → Limits longest (longest + 1)
 
 -- the word of the last own step that succeeded, one event later
 abbrev pub own_word : Option ℕ → Event → Option ℕ
-own_word w (request accepted) = w
 own_word w (step a v (Ok (made.Made (side.Own)))) = Some v
-own_word w (step a v (Ok (made.Made (side.Service)))) = w
-own_word w (step a v (Ok (made.Taken wait))) = w
-own_word w (step a v (Err refusal)) = w
+own_word w _ = w
 
 -- the word of the last own step that succeeded in a history
 abbrev pub last_own : Option ℕ → List Event → Option ℕ

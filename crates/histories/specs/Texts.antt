@@ -2,7 +2,7 @@
 use Rattle.std.specs.Prelude.{◌≡◌, ℕ, ◌+◌, ◌*◌, ◌%◌, ◌<◌, ◌≤◌, Bool, true, false, Ok, Err, Result}
 use Rattle.isa.specs.declared.refusals.Refusal.{Refusal}
 use Rattle.isa.specs.declared.instructions.Instruction.{Instruction}
-use Rattle.isa.specs.declared.instructions.Instruction.TheVariants.{Add, Sub, Addi, Register, Immediate, Lw, Lb, Sw, Sb, Jal, Branch, Call, Imm}
+use Rattle.isa.specs.declared.instructions.Instruction.TheVariants.{Immediate, Jal, Call}
 use Rattle.isa.specs.Registers.{result, late, reads_interlocked}
 use Rattle.isa.specs.Words.{read_word}
 use Rattle.memory.specs.Words.{word_at}
@@ -13,19 +13,8 @@ use Rattle.machine.specs.Checks.{hazard}
 
 -- srxi and slxi
 abbrev pub extended_shift : Instruction → Bool
-extended_shift (Add d a b) = false
-extended_shift (Sub d a b) = false
-extended_shift (Addi d a n) = false
-extended_shift (Register f d b) = false
 extended_shift (Immediate f d n) = extends f
-extended_shift (Lw d a n) = false
-extended_shift (Lb d a n) = false
-extended_shift (Sw d a n) = false
-extended_shift (Sb d a n) = false
-extended_shift (Jal d a n) = false
-extended_shift (Branch c n) = false
-extended_shift (Call n) = false
-extended_shift (Imm n) = false
+extended_shift _ = false
 
 -- the same of what a word reads as
 abbrev pub extended_reading : Result Instruction Refusal → Bool
@@ -38,19 +27,9 @@ reads_extended w = extended_reading (read_word w)
 
 -- jal and call
 abbrev pub jump : Instruction → Bool
-jump (Add d a b) = false
-jump (Sub d a b) = false
-jump (Addi d a n) = false
-jump (Register f d b) = false
-jump (Immediate f d n) = false
-jump (Lw d a n) = false
-jump (Lb d a n) = false
-jump (Sw d a n) = false
-jump (Sb d a n) = false
 jump (Jal d a n) = true
-jump (Branch c n) = false
 jump (Call n) = true
-jump (Imm n) = false
+jump _ = false
 
 -- the same of what a word reads as
 abbrev pub jump_reading : Result Instruction Refusal → Bool

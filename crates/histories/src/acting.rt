@@ -9,30 +9,25 @@ use machine::{Core, Side, Step, Tally};
 use memory::Memory;
 
 // The tally of a single step that succeeded, which a run's steps count like.
+#[tactic(auto, using(crate::proofs::Counting::steps_are_counted))]
 pub fn tally_of_step(step: Step) -> Tally
     ensures exact { result ≡ count.counted count.no_steps step }
     ensures law { StepsAreCounted }
 {
-    let mut tally = no_steps();
     match step {
-        Step::Taken(wait) => {
-            tally.takings = 1;
-            tally.wait = wait;
-        }
-        Step::Made(Side::Own) => tally.own = 1,
-        Step::Made(Side::Service) => tally.service = 1,
-    }
-    tally
-}
-
-fn no_steps() -> Tally
-    ensures { result ≡ count.no_steps }
-{
-    Tally {
-        own: 0,
-        service: 0,
-        takings: 0,
-        wait: 0,
+        Step::Taken(wait) => Tally {
+            takings: 1,
+            wait,
+            ..Tally::default()
+        },
+        Step::Made(Side::Own) => Tally {
+            own: 1,
+            ..Tally::default()
+        },
+        Step::Made(Side::Service) => Tally {
+            service: 1,
+            ..Tally::default()
+        },
     }
 }
 
@@ -46,12 +41,9 @@ impl Action {
         match self {
             Action::Request => {
                 let _ = core.request();
-                no_steps()
+                Tally::default()
             }
-            Action::Step => match core.step(memory) {
-                Ok(step) => tally_of_step(step),
-                Err(_) => no_steps(),
-            },
+            Action::Step => core.step(memory).map(tally_of_step).unwrap_or_default(),
             Action::Run(budget) => core.run(memory, budget).tally,
         }
     }

@@ -10,22 +10,19 @@ pub fn leaves_no_mark(word: u16) -> bool
     ensures exact { result ≡ not (text.reads_extended word) }
     ensures law { law.RequestsLeaveNoMark }
 {
-    match read(word) {
-        Ok(instruction) => !is_extended_shift(instruction),
-        Err(_) => true,
-    }
+    !read(word).is_ok_and(is_extended_shift)
 }
 
 fn is_extended_shift(instruction: Instruction) -> bool
     ensures { result ≡ text.extended_shift instruction }
 {
-    match instruction {
-        Instruction::Immediate { function, .. } => match function {
-            ImmediateFunction::Srxi | ImmediateFunction::Slxi => true,
-            _ => false,
-        },
-        _ => false,
-    }
+    matches!(
+        instruction,
+        Instruction::Immediate {
+            function: ImmediateFunction::Srxi | ImmediateFunction::Slxi,
+            ..
+        }
+    )
 }
 
 // The most that a taken request can have waited in a text with this longest interlocked run.
@@ -34,25 +31,23 @@ pub fn wait_limit(longest: u16) -> u32
     ensures limits { law.Limits longest result }
     ensures law { law.WaitsAreBounded }
 {
-    longest as u32 + 1
+    u32::from(longest) + 1
 }
 
 // Whether an own step may be refused for a hazard directly after this word: it reads as jal or call.
+#[tactic(auto, using(crate::proofs::Hazards::hazards_follow_jumps))]
 pub fn hazard_may_follow(word: u16) -> bool
     ensures exact { result ≡ text.reads_jump word }
     ensures law { law.HazardsFollowJumps }
 {
-    match read(word) {
-        Ok(instruction) => is_jump(instruction),
-        Err(_) => false,
-    }
+    read(word).is_ok_and(is_jump)
 }
 
 fn is_jump(instruction: Instruction) -> bool
     ensures { result ≡ text.jump instruction }
 {
-    match instruction {
-        Instruction::Jal { .. } | Instruction::Call { .. } => true,
-        _ => false,
-    }
+    matches!(
+        instruction,
+        Instruction::Jal { .. } | Instruction::Call { .. }
+    )
 }
