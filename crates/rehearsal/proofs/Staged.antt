@@ -1,6 +1,6 @@
 -- What a rehearsed list leads to: the first core as the list leads it, the twin as its own steps lead it.
-use Rattle.std.proofs.Common.{◌≡◌, ℕ, ◌+◌, ◌<◌, max, Bool, true, false, ◌&&◌, List, [], ◌∷◌, length, get_or, drop, sym, refl, ap, ◌∙◌, add-zero, add_assoc, add-one, arith, drop-cons}
-use native.Mathlib.Nat.{max-zero}
+use Rattle.std.proofs.Common.{◌≡◌, ℕ, ◌+◌, ◌<◌, Bool, ◌&&◌, List, [], ◌∷◌, length, get_or, drop, sym, ap, ◌∙◌, add-one, arith, drop-cons}
+use Rattle.std.proofs.Math.Bool.{and_assoc, and-true}
 use Rattle.memory.specs.Meaning.{Meaning}
 use Rattle.machine.specs.declared.answers.Tally.{Tally}
 use Rattle.machine.specs.declared.states.State.{State}
@@ -14,27 +14,19 @@ use Rattle.rehearsal.specs.declared.reports.Totals.{Totals}
 use Rattle.rehearsal.specs.Twins.{all_own}
 use Rattle.rehearsal.specs.Stages.{Stage, added, staged, rehearsed}
 use Rattle.rehearsal.specs.Reports.{stage_of}
-use Rattle.rehearsal.proofs.Twinned.{all_own_then, and_assoc, repeated_then}
+use Rattle.rehearsal.proofs.Twinned.{all_own_then, repeated_then}
 
-max_assoc : (x y z : ℕ) → max (max x y) z ≡ max x (max y z)
-max_assoc x y z = omega arith
+-- totals with the same numbers are the same
+same_totals : (t u : Totals) → t.own ≡ u.own → t.service ≡ u.service → t.takings ≡ u.takings → t.wait ≡ u.wait → t ≡ u
+same_totals t u own service takings wait i = record { own = own i; service = service i; takings = takings i; wait = wait i }
 
 -- totals are added in any grouping
 pub added_joined : (t : Totals) (y z : Tally) → added (added t y) z ≡ added t (joined y z)
-added_joined t y z i = record {
-  own = add_assoc t.own y.own z.own i;
-  service = add_assoc t.service y.service z.service i;
-  takings = add_assoc t.takings y.takings z.takings i;
-  wait = max_assoc t.wait y.wait z.wait i;
-}
+added_joined t y z = same_totals _ _ (omega arith) (omega arith) (omega arith) (omega arith)
 
 -- nothing is added by no steps
 pub added_none : (t : Totals) → added t no_steps ≡ t
-added_none t i = record { own = add-zero t.own i; service = add-zero t.service i; takings = add-zero t.takings i; wait = max-zero t.wait i }
-
-and_true : (x : Bool) → x && true ≡ x
-and_true true = refl
-and_true false = refl
+added_none t = same_totals _ _ (omega arith) (omega arith) (omega arith) (omega arith)
 
 -- the stage that a list leads to
 abbrev pub led : (ℕ → Bool) → (ℕ → Bool) → Stage → List Action → Stage
@@ -48,7 +40,7 @@ led o p g actions =
     }
 
 pub rehearsed_led : (o p : ℕ → Bool) (actions : List Action) (g : Stage) → rehearsed o p g actions ≡ led o p g actions
-rehearsed_led o p [] g = λ i. record { first = g.first; twin = g.twin; totals = sym (added_none g.totals) i; kept = sym (and_true g.kept) i }
+rehearsed_led o p [] g = λ i. record { first = g.first; twin = g.twin; totals = sym (added_none g.totals) i; kept = sym (and-true g.kept) i }
 rehearsed_led o p (a ∷ actions) g =
     rehearsed_led o p actions (staged o p g a) ∙ (λ i. record {
       first = record { state = (played o g.first.state g.first.bytes (a ∷ actions)).state; bytes = (played o g.first.state g.first.bytes (a ∷ actions)).bytes };

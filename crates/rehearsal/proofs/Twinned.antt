@@ -1,5 +1,6 @@
 -- Single steps made in two parts, and steps that are all own steps.
-use Rattle.std.proofs.Common.{◌≡◌, ℕ, zero, suc, ◌+◌, Bool, true, false, ◌&&◌, Result, sym, refl, ap, ◌∙◌, suc-add, zero-add}
+use Rattle.std.proofs.Common.{◌≡◌, ℕ, zero, suc, ◌+◌, Bool, true, ◌&&◌, Result, sym, refl, ap, ◌∙◌, suc-add, zero-add}
+use Rattle.std.proofs.Math.Bool.{and_assoc}
 use Rattle.machine.specs.declared.answers.Step.{Step}
 use Rattle.machine.specs.declared.answers.StepRefusal.{StepRefusal}
 use Rattle.machine.specs.declared.states.State.{State}
@@ -14,11 +15,6 @@ pub repeated_then : (m n : ℕ) (s : State) (b : ℕ → ℕ) (o : ℕ → Bool)
     → repeated (m + n) s b o ≡ repeated n (repeated m s b o).state (repeated m s b o).bytes o
 repeated_then zero n s b o = ap (λ k. repeated k s b o) (zero-add n)
 repeated_then (suc m) n s b o = ap (λ k. repeated k s b o) (suc-add m n) ∙ repeated_then m n (stepped s b o).state (stepped s b o).bytes o
-
--- tests are joined in any grouping
-pub and_assoc : (x y z : Bool) → (x && y) && z ≡ x && (y && z)
-and_assoc true y z = refl
-and_assoc false y z = refl
 
 -- all of m + n steps are own steps where the first m and the next n are
 pub all_own_then : (m n : ℕ) (s : State) (b : ℕ → ℕ) (o : ℕ → Bool)
@@ -40,20 +36,14 @@ alone_all_own o none = refl
 alone_all_own o (more {n = n} {t = t} {c = c} step rest) =
     ap (λ r. made_own r && all_own n (stepped t c o).state (stepped t c o).bytes o) step ∙ alone_all_own o rest
 
-swap_and : (x y z : Bool) → x && (y && z) ≡ (y && x) && z
-swap_and true true z = refl
-swap_and true false z = refl
-swap_and false true z = refl
-swap_and false false z = refl
-
 -- one single step more of the twin, as the step's contract tells it
 pub followed : (k : ℕ) (s : State) (m : Meaning) (answer : Result Step StepRefusal) (t : State) (u : Meaning) → Steps s m answer t u
     → (own all whole : Bool) → own ≡ made_own answer → whole ≡ all && all_own (suc k) s m.byte m.mark
-    → whole ≡ (own && all) && all_own k t u.byte u.mark
+    → whole ≡ (all && own) && all_own k t u.byte u.mark
 followed k s m answer t u made own all whole same before =
     before
-    ∙ swap_and all (made_own (stepped s m.byte m.mark).answer) _
-    ∙ (λ i. (sym (same ∙ ap made_own made.answers) i && all) && all_own k (sym made.state i) (sym made.memory i).byte (sym made.memory i).mark)
+    ∙ sym (and_assoc all (made_own (stepped s m.byte m.mark).answer) _)
+    ∙ (λ i. (all && sym (same ∙ ap made_own made.answers) i) && all_own k (sym made.state i) (sym made.memory i).byte (sym made.memory i).mark)
 
 pub repeats : (k : ℕ) (s : State) (m : Meaning) (answer : Result Step StepRefusal) (t : State) (u : Meaning) → Steps s m answer t u
     → repeated (suc k) s m.byte m.mark ≡ repeated k t u.byte u.mark

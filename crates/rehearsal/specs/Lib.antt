@@ -1,3 +1,4 @@
+pub mod Boards
 pub mod Twins
 pub mod Stages
 pub mod Reports

@@ -1,5 +1,5 @@
 -- A list of actions on one core, and the own steps that succeeded alone on another.
-use Rattle.std.specs.Prelude.{ℕ, ◌+◌, max, Bool, ◌&&◌, List, [], ◌∷◌}
+use Rattle.std.specs.Prelude.{ℕ, ◌+◌, ◌<◌, ◌^◌, max, Bool, ◌&&◌, List, [], ◌∷◌}
 use Rattle.machine.specs.declared.answers.Tally.{Tally}
 use Rattle.machine.specs.Laws.{Standing, repeated}
 use Rattle.histories.specs.declared.actions.Action.{Action}
@@ -10,6 +10,12 @@ use Rattle.rehearsal.specs.Twins.{all_own}
 -- no action yet
 abbrev pub nothing : Totals
 nothing = record { own = 0; service = 0; takings = 0; wait = 0 }
+
+-- each count has room for one tally more
+pub record HasRoom (t : Totals) : Type 0 where
+  pub own : t.own + 65536 < 2 ^ 128
+  pub service : t.service + 65536 < 2 ^ 128
+  pub takings : t.takings + 65536 < 2 ^ 128
 
 -- one action more: counts add up, and the longest wait stays
 abbrev pub added : Totals → Tally → Totals

@@ -1,5 +1,5 @@
 -- The twin: single steps and nothing else.
-use Rattle.std.specs.Prelude.{ℕ, zero, suc, Bool, true, false, ◌&&◌, Ok, Err, Result}
+use Rattle.std.specs.Prelude.{ℕ, zero, suc, Bool, true, false, ◌&&◌, Ok, Result}
 use Rattle.machine.specs.declared.answers.Step.{Step}
 use Rattle.machine.specs.declared.answers.Step.TheVariants as step
 use Rattle.machine.specs.declared.answers.StepRefusal.{StepRefusal}
@@ -10,9 +10,7 @@ use Rattle.machine.specs.Steps.{stepped}
 -- an own step that succeeded
 abbrev pub made_own : Result Step StepRefusal → Bool
 made_own (Ok (step.Made (side.Own))) = true
-made_own (Ok (step.Made (side.Service))) = false
-made_own (Ok (step.Taken wait)) = false
-made_own (Err refusal) = false
+made_own _ = false
 
 -- each of n single steps is an own step that succeeds
 abbrev pub all_own : ℕ → State → (ℕ → ℕ) → (ℕ → Bool) → Bool

@@ -2,122 +2,70 @@
 ghost use Rattle.std.specs.Prelude.{◌≡◌, ℕ, ◌<◌, false, Decides, ◌≢◌, slice_index};
 ghost use Rattle.machine.specs.Layouts.{inside};
 ghost use Rattle.histories.specs.Laws.{SameProgram};
+ghost use Rattle.rehearsal.specs.Boards.{SameByte};
 ghost use Rattle.rehearsal.specs.Reports as spec;
 
+use crate::boards::Board;
 use crate::reports::Program;
-use isa::Refusal;
-use machine::{Core, Layout, Side, Step, StepRefusal};
+use machine::{Core, Step, StepRefusal};
 use memory::Memory;
-
-fn register_of(core: &Core, number: u8) -> u16
-    requires { number < 16 }
-    ensures { result ≡ slice_index core.now.state.registers number }
-{
-    match core.register(number) {
-        Ok(value) => value,
-        Err(_) => 0,
-    }
-}
 
 // All registers but r14 are the same.
 fn same_registers(core: &Core, twin: &Core) -> bool
     ensures { Decides result ((k : ℕ) → k < 16 → (k ≢ 14) → slice_index core.now.state.registers k ≡ slice_index twin.now.state.registers k) }
 {
-    for number in 0..16u8 {
-        if number != 14 && register_of(core, number) != register_of(twin, number) {
-            return false;
-        }
-    }
-    true
+    let registers = core.registers();
+    let twins = twin.registers();
+    registers
+        .iter()
+        .zip(&twins)
+        .enumerate()
+        .all(|(number, (value, other))| number == 14 || value == other)
 }
 
-fn is_inside(layout: Layout, address: u16) -> bool
-    ensures { result ≡ inside layout address }
+// The byte at an address is the same, unless the address is in the service range.
+fn same_byte<M: Memory, N: Memory>(first: &Board<'_, M>, twin: &Board<'_, N>, address: u16) -> bool
+    ensures { Decides result (SameByte first.now.core.state.layout
+        (M.Memory.means first.now.memory.now).byte (N.Memory.means twin.now.memory.now).byte address) }
 {
-    layout.low <= address && address < layout.high
+    first.core.layout().service.contains(address)
+        || first.memory.read(address) == twin.memory.read(address)
 }
 
 // All memory outside the service range is the same.
-fn same_memory<M: Memory, N: Memory>(layout: Layout, memory: &M, twin_memory: &N) -> bool
-    ensures { Decides result ((a : ℕ) → a < 65536 → inside layout a ≡ false
-        → (M.Memory.means memory.now).byte a ≡ (N.Memory.means twin_memory.now).byte a) }
+fn same_memory<M: Memory, N: Memory>(first: &Board<'_, M>, twin: &Board<'_, N>) -> bool
+    ensures { Decides result ((a : ℕ) → a < 65536 → inside first.now.core.state.layout a ≡ false
+        → (M.Memory.means first.now.memory.now).byte a ≡ (N.Memory.means twin.now.memory.now).byte a) }
 {
-    for address in 0..=u16::MAX {
-        if !is_inside(layout, address) && memory.read(address) != twin_memory.read(address) {
-            return false;
-        }
-    }
-    true
+    (0..=u16::MAX).all(|address| same_byte(first, twin, address))
 }
 
-fn same_program<M: Memory, N: Memory>(core: &Core, memory: &M, twin: &Core, twin_memory: &N) -> bool
-    ensures { Decides result (SameProgram core.now.state (M.Memory.means memory.now).byte
-        twin.now.state (N.Memory.means twin_memory.now).byte) }
+fn same_program<M: Memory, N: Memory>(first: &Board<'_, M>, twin: &Board<'_, N>) -> bool
+    ensures { Decides result (SameProgram first.now.core.state (M.Memory.means first.now.memory.now).byte
+        twin.now.core.state (N.Memory.means twin.now.memory.now).byte) }
 {
-    core.counter() == twin.counter()
-        && same_registers(core, twin)
-        && same_memory(core.layout(), memory, twin_memory)
+    first.core.counter() == twin.core.counter()
+        && same_registers(&first.core, &twin.core)
+        && same_memory(first, twin)
 }
 
 // How the two program states compare.
-pub(crate) fn compare<M: Memory, N: Memory>(
-    core: &Core,
-    memory: &M,
-    twin: &Core,
-    twin_memory: &N,
-) -> Program
-    ensures { spec.Compared (spec.standing core.now.state (M.Memory.means memory.now))
-        (spec.standing twin.now.state (N.Memory.means twin_memory.now)) result }
+pub(crate) fn compare<M: Memory, N: Memory>(first: &Board<'_, M>, twin: &Board<'_, N>) -> Program
+    ensures { spec.Compared (spec.standing first.now.core.state (M.Memory.means first.now.memory.now))
+        (spec.standing twin.now.core.state (N.Memory.means twin.now.memory.now)) result }
 {
-    if core.is_serving() {
+    if first.core.is_serving() {
         Program::Serving
-    } else if same_program(core, memory, twin, twin_memory) {
+    } else if same_program(first, twin) {
         Program::Same
     } else {
         Program::Different
     }
 }
 
-fn same_side(first: Side, second: Side) -> bool
-    ensures { Decides result (first ≡ second) }
-{
-    match (first, second) {
-        (Side::Own, Side::Own) | (Side::Service, Side::Service) => true,
-        _ => false,
-    }
-}
-
-fn same_step(first: Step, second: Step) -> bool
-    ensures { Decides result (first ≡ second) }
-{
-    match (first, second) {
-        (Step::Taken(wait), Step::Taken(other)) => wait == other,
-        (Step::Made(side), Step::Made(other)) => same_side(side, other),
-        _ => false,
-    }
-}
-
-fn same_reason(first: Refusal, second: Refusal) -> bool
-    ensures { Decides result (first ≡ second) }
-{
-    first.number() == second.number()
-}
-
-fn same_refusal(first: StepRefusal, second: StepRefusal) -> bool
-    ensures { Decides result (first ≡ second) }
-{
-    first.address == second.address
-        && same_reason(first.refusal, second.refusal)
-        && same_side(first.side, second.side)
-}
-
 // Whether two steps answered alike: both made the same, or both were refused with the same number, address and side.
 pub fn same_answer(first: Result<Step, StepRefusal>, second: Result<Step, StepRefusal>) -> bool
     ensures { Decides result (first ≡ second) }
 {
-    match (first, second) {
-        (Ok(step), Ok(other)) => same_step(step, other),
-        (Err(refusal), Err(other)) => same_refusal(refusal, other),
-        _ => false,
-    }
+    first == second
 }

@@ -1,6 +1,7 @@
 // A listing assembled, loaded twice and rehearsed: a list of actions on one core, and its own steps alone on a twin.
 #![tactic(auto)]
 
+mod boards;
 mod comparing;
 mod playing;
 mod rehearsing;

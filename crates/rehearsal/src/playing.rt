@@ -1,54 +1,55 @@
 // The list on the first core, and the own steps alone on the twin.
-ghost use Rattle.std.specs.Prelude.{◌≡◌, ◌+◌, ◌*◌, ◌^◌, ◌<◌, true, length};
+ghost use Rattle.std.specs.Prelude.{◌≡◌, true};
+ghost use Rattle.rehearsal.specs.Boards.{Holds};
 ghost use Rattle.machine.specs.Steps.{memory_of};
 ghost use Rattle.machine.specs.Laws.{repeated};
 ghost use Rattle.rehearsal.specs.Twins as twins;
 ghost use Rattle.rehearsal.specs.Reports as report;
 ghost use Rattle.rehearsal.specs.Stages as spec;
 
+use crate::boards::Board;
 use crate::reports::Totals;
 use histories::Action;
-use machine::{Core, Side, Step, StepRefusal, Tally};
+use machine::{Side, Step, StepRefusal, Tally};
 use memory::Memory;
 
 fn is_made_own(answer: Result<Step, StepRefusal>) -> bool
     ensures { result ≡ twins.made_own answer }
 {
-    match answer {
-        Ok(Step::Made(Side::Own)) => true,
-        _ => false,
+    matches!(answer, Ok(Step::Made(Side::Own)))
+}
+
+impl<M: Memory> Board<'_, M> {
+    // So many single steps; the answer says whether each was an own step that succeeded.
+    fn follow(&mut self, steps: u16) -> bool
+        ensures all { result ≡ twins.all_own steps self.old.core.state
+            (M.Memory.means self.old.memory.now).byte (M.Memory.means self.old.memory.now).mark }
+        ensures state { self.new.core.state ≡ (repeated steps self.old.core.state
+            (M.Memory.means self.old.memory.now).byte (M.Memory.means self.old.memory.now).mark).state }
+        ensures memory { M.Memory.means self.new.memory.now ≡ memory_of (repeated steps self.old.core.state
+            (M.Memory.means self.old.memory.now).byte (M.Memory.means self.old.memory.now).mark).bytes
+            (M.Memory.means self.old.memory.now).mark }
+        ensures holds { Holds M.Memory.loan self.old.memory self.new.memory }
+    {
+        let mut all = true;
+        for _ in 0..steps {
+            all &= is_made_own(self.step());
+        }
+        all
     }
 }
 
-// So many single steps of the twin; the answer says whether each was an own step that succeeded.
-fn follow<M: Memory>(twin: &mut Core, memory: &mut M, steps: u16) -> bool
-    ensures all { result
-        ≡ twins.all_own steps twin.old.state (M.Memory.means memory.old).byte (M.Memory.means memory.old).mark }
-    ensures state { twin.new.state
-        ≡ (repeated steps twin.old.state (M.Memory.means memory.old).byte (M.Memory.means memory.old).mark).state }
-    ensures memory { M.Memory.means memory.new
-        ≡ memory_of (repeated steps twin.old.state (M.Memory.means memory.old).byte (M.Memory.means memory.old).mark).bytes
-        (M.Memory.means memory.old).mark }
-    ensures lent { M.Memory.loan memory.new ≡ M.Memory.loan memory.old }
-{
-    let mut all = true;
-    for i in 0..steps {
-        all = is_made_own(twin.step(memory)) & all;
-    }
-    all
-}
-
-fn added(totals: Totals, tally: Tally) -> Totals
-    requires own { totals.own + 65536 < 2 ^ 128 }
-    requires service { totals.service + 65536 < 2 ^ 128 }
-    requires takings { totals.takings + 65536 < 2 ^ 128 }
-    ensures { result ≡ spec.added totals tally }
-{
-    Totals {
-        own: totals.own + u128::from(tally.own),
-        service: totals.service + u128::from(tally.service),
-        takings: totals.takings + u128::from(tally.takings),
-        wait: totals.wait.max(tally.wait),
+impl Totals {
+    fn added(self, tally: Tally) -> Totals
+        requires { spec.HasRoom self }
+        ensures { result ≡ spec.added self tally }
+    {
+        Totals {
+            own: self.own + u128::from(tally.own),
+            service: self.service + u128::from(tally.service),
+            takings: self.takings + u128::from(tally.takings),
+            wait: self.wait.max(tally.wait),
+        }
     }
 }
 
@@ -61,35 +62,27 @@ pub(crate) struct Played {
 
 // Plays the list on the first core, and after each action the own steps that succeeded on the twin.
 pub(crate) fn play<M: Memory, N: Memory>(
-    core: &mut Core,
-    memory: &mut M,
-    twin: &mut Core,
-    twin_memory: &mut N,
+    first: &mut Board<'_, M>,
+    twin: &mut Board<'_, N>,
     actions: &[Action],
 ) -> Played
-    ensures stage { spec.rehearsed (M.Memory.means memory.old).mark (N.Memory.means twin_memory.old).mark
-        (report.stage_of core.old.state (M.Memory.means memory.old) twin.old.state
-        (N.Memory.means twin_memory.old) spec.nothing true)
+    ensures stage { spec.rehearsed (M.Memory.means first.old.memory.now).mark (N.Memory.means twin.old.memory.now).mark
+        (report.stage_of first.old.core.state (M.Memory.means first.old.memory.now) twin.old.core.state
+        (N.Memory.means twin.old.memory.now) spec.nothing true)
         actions.now
-        ≡ report.stage_of core.new.state (M.Memory.means memory.new) twin.new.state
-        (N.Memory.means twin_memory.new) result.totals result.kept }
-    ensures marks { (M.Memory.means memory.new).mark ≡ (M.Memory.means memory.old).mark }
-    ensures twin_marks { (N.Memory.means twin_memory.new).mark ≡ (N.Memory.means twin_memory.old).mark }
-    ensures lent { M.Memory.loan memory.new ≡ M.Memory.loan memory.old }
-    ensures twin_lent { N.Memory.loan twin_memory.new ≡ N.Memory.loan twin_memory.old }
+        ≡ report.stage_of first.new.core.state (M.Memory.means first.new.memory.now) twin.new.core.state
+        (N.Memory.means twin.new.memory.now) result.totals result.kept }
+    ensures marks { (M.Memory.means first.new.memory.now).mark ≡ (M.Memory.means first.old.memory.now).mark }
+    ensures twin_marks { (N.Memory.means twin.new.memory.now).mark ≡ (N.Memory.means twin.old.memory.now).mark }
+    ensures holds { Holds M.Memory.loan first.old.memory first.new.memory }
+    ensures twin_holds { Holds N.Memory.loan twin.old.memory twin.new.memory }
 {
-    let mut totals = Totals {
-        own: 0,
-        service: 0,
-        takings: 0,
-        wait: 0,
-    };
-    let mut all = true;
+    let mut totals = Totals::default();
+    let mut kept = true;
     for action in actions {
-        let tally = action.act(core, memory);
-        let whole = follow(twin, twin_memory, tally.own);
-        totals = added(totals, tally);
-        all = all & whole;
+        let tally = first.act(*action);
+        kept &= twin.follow(tally.own);
+        totals = totals.added(tally);
     }
-    Played { totals, kept: all }
+    Played { totals, kept }
 }

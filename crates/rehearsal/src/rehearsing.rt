@@ -1,90 +1,90 @@
 // The rehearsal of a listing.
-ghost use Rattle.std.specs.Prelude.{◌≡◌, ◌+◌, true, length, IfOk, OnOk};
-ghost use Rattle.machine.specs.Steps.{stepped, memory_of};
+ghost use Rattle.std.specs.Prelude.{◌≡◌, length, IfOk, OnOk};
+ghost use Rattle.rehearsal.specs.Boards.{Holds};
+ghost use Rattle.machine.specs.Steps.{Steps};
 ghost use Rattle.rehearsal.specs.Laws.{Promises};
 ghost use Rattle.rehearsal.specs.Reports as spec;
 
+use crate::boards::Board;
 use crate::comparing::compare;
 use crate::playing::{Played, play};
 use crate::reports::{Obstacle, Report};
 use assembler::assemble;
 use histories::Action;
-use machine::Core;
+use machine::{Layout, ServiceRange};
 use memory::Memory;
 use text::Answers;
+
+// Loads an image into both cores.
+fn load_both<M: Memory, N: Memory>(
+    first: &mut Board<'_, M>,
+    twin: &mut Board<'_, N>,
+    image: &[u8],
+    layout: Layout,
+) -> Result<(), Obstacle>
+    ensures outcome { spec.BothLoaded layout image.now
+        (M.Memory.means first.old.memory.now) (N.Memory.means twin.old.memory.now) result
+        first.new.core.state (M.Memory.means first.new.memory.now)
+        twin.new.core.state (N.Memory.means twin.new.memory.now) }
+    ensures holds { Holds M.Memory.loan first.old.memory first.new.memory }
+    ensures twin_holds { Holds N.Memory.loan twin.old.memory twin.new.memory }
+{
+    first.load(image, layout).map_err(Obstacle::Loading)?;
+    twin.load(image, layout).map_err(Obstacle::TwinLoading)
+}
 
 // Assembles the listing and loads its image into both cores.
 fn prepare<M: Memory, N: Memory>(
     listing: &[u8],
     image: &mut [u8],
-    lo: u16,
-    hi: u16,
-    core: &mut Core,
-    memory: &mut M,
-    twin: &mut Core,
-    twin_memory: &mut N,
+    range: ServiceRange,
+    first: &mut Board<'_, M>,
+    twin: &mut Board<'_, N>,
 ) -> Result<Answers, Obstacle>
     ensures image { image.new ≡ spec.buffer_after listing.now image.old }
-    ensures outcome { spec.Prepared listing.now (length image.old) lo hi
-        (M.Memory.means memory.old) (N.Memory.means twin_memory.old) result
-        core.new.state (M.Memory.means memory.new) twin.new.state (N.Memory.means twin_memory.new) }
+    ensures outcome { spec.Prepared listing.now (length image.old) range
+        (M.Memory.means first.old.memory.now) (N.Memory.means twin.old.memory.now) result
+        first.new.core.state (M.Memory.means first.new.memory.now)
+        twin.new.core.state (N.Memory.means twin.new.memory.now) }
     ensures facts { OnOk result (spec.Accepted listing.now) }
-    ensures lent { M.Memory.loan memory.new ≡ M.Memory.loan memory.old }
-    ensures twin_lent { N.Memory.loan twin_memory.new ≡ N.Memory.loan twin_memory.old }
+    ensures holds { Holds M.Memory.loan first.old.memory first.new.memory }
+    ensures twin_holds { Holds N.Memory.loan twin.old.memory twin.new.memory }
 {
-    let answers = match assemble(listing, image) {
-        Ok(answers) => answers,
-        Err(refused) => return Err(Obstacle::Assembly(refused)),
+    let answers = assemble(listing, image).map_err(Obstacle::Assembly)?;
+    let layout = Layout {
+        text: answers.text as u16,
+        service: range,
     };
-    let end = answers.image;
-    let loaded = &image[0..end];
-    let text = answers.text as u16;
-    if let Err(refusal) = core.load(memory, loaded, text, lo, hi) {
-        return Err(Obstacle::Loading(refusal));
-    }
-    if let Err(refusal) = twin.load(twin_memory, loaded, text, lo, hi) {
-        return Err(Obstacle::TwinLoading(refusal));
-    }
+    load_both(first, twin, &image[..answers.image], layout)?;
     Ok(answers)
 }
 
 // Compares the two cores, and makes one step more in each.
 fn finish<M: Memory, N: Memory>(
-    core: &mut Core,
-    memory: &mut M,
-    twin: &mut Core,
-    twin_memory: &mut N,
+    first: &mut Board<'_, M>,
+    twin: &mut Board<'_, N>,
     played: Played,
     limit: usize,
 ) -> Report
     ensures totals { result.totals ≡ played.totals }
     ensures kept { result.kept ≡ played.kept }
     ensures limit { result.limit ≡ limit }
-    ensures program { spec.Compared (spec.standing core.old.state (M.Memory.means memory.old))
-        (spec.standing twin.old.state (N.Memory.means twin_memory.old)) result.program }
-    ensures next { result.next
-        ≡ (stepped core.old.state (M.Memory.means memory.old).byte (M.Memory.means memory.old).mark).answer }
-    ensures twin_next { result.twin_next
-        ≡ (stepped twin.old.state (N.Memory.means twin_memory.old).byte (N.Memory.means twin_memory.old).mark).answer }
-    ensures memory { M.Memory.means memory.new
-        ≡ memory_of (stepped core.old.state (M.Memory.means memory.old).byte (M.Memory.means memory.old).mark).bytes
-        (M.Memory.means memory.old).mark }
-    ensures twin_memory { N.Memory.means twin_memory.new
-        ≡ memory_of (stepped twin.old.state (N.Memory.means twin_memory.old).byte (N.Memory.means twin_memory.old).mark).bytes
-        (N.Memory.means twin_memory.old).mark }
-    ensures lent { M.Memory.loan memory.new ≡ M.Memory.loan memory.old }
-    ensures twin_lent { N.Memory.loan twin_memory.new ≡ N.Memory.loan twin_memory.old }
+    ensures program { spec.Compared (spec.standing first.old.core.state (M.Memory.means first.old.memory.now))
+        (spec.standing twin.old.core.state (N.Memory.means twin.old.memory.now)) result.program }
+    ensures next { Steps first.old.core.state (M.Memory.means first.old.memory.now)
+        result.next first.new.core.state (M.Memory.means first.new.memory.now) }
+    ensures twin_next { Steps twin.old.core.state (N.Memory.means twin.old.memory.now)
+        result.twin_next twin.new.core.state (N.Memory.means twin.new.memory.now) }
+    ensures holds { Holds M.Memory.loan first.old.memory first.new.memory }
+    ensures twin_holds { Holds N.Memory.loan twin.old.memory twin.new.memory }
 {
-    let program = compare(core, memory, twin, twin_memory);
-    let next = core.step(memory);
-    let twin_next = twin.step(twin_memory);
     Report {
         totals: played.totals,
         kept: played.kept,
         limit,
-        program,
-        next,
-        twin_next,
+        program: compare(first, twin),
+        next: first.step(),
+        twin_next: twin.step(),
     }
 }
 
@@ -93,40 +93,23 @@ fn finish<M: Memory, N: Memory>(
 pub fn rehearse<M: Memory, N: Memory>(
     listing: &[u8],
     image: &mut [u8],
-    lo: u16,
-    hi: u16,
+    range: ServiceRange,
     memory: &mut M,
     twin_memory: &mut N,
     actions: &[Action],
 ) -> Result<Report, Obstacle>
     ensures image { image.new ≡ spec.buffer_after listing.now image.old }
-    ensures outcome { spec.Outcome listing.now (length image.old) lo hi
+    ensures outcome { spec.Outcome listing.now (length image.old) range
         (M.Memory.means memory.old) (N.Memory.means twin_memory.old)
         actions.now result (M.Memory.means memory.new) (N.Memory.means twin_memory.new) }
-    ensures promises { IfOk result (λ report. Promises listing.now lo hi (M.Memory.means memory.old)
+    ensures promises { IfOk result (λ report. Promises listing.now range (M.Memory.means memory.old)
         (N.Memory.means twin_memory.old) actions.now report) }
     ensures lent { M.Memory.loan memory.new ≡ M.Memory.loan memory.old }
     ensures twin_lent { N.Memory.loan twin_memory.new ≡ N.Memory.loan twin_memory.old }
 {
-    let mut core = Core::new();
-    let mut twin = Core::new();
-    let answers = prepare(
-        listing,
-        image,
-        lo,
-        hi,
-        &mut core,
-        memory,
-        &mut twin,
-        twin_memory,
-    )?;
-    let played = play(&mut core, memory, &mut twin, twin_memory, actions);
-    Ok(finish(
-        &mut core,
-        memory,
-        &mut twin,
-        twin_memory,
-        played,
-        answers.run + 1,
-    ))
+    let mut first = Board::new(memory);
+    let mut twin = Board::new(twin_memory);
+    let answers = prepare(listing, image, range, &mut first, &mut twin)?;
+    let played = play(&mut first, &mut twin, actions);
+    Ok(finish(&mut first, &mut twin, played, answers.run + 1))
 }

@@ -4,7 +4,7 @@ use machine::{Step, StepRefusal};
 use text::Refused;
 
 // The steps that a list of actions made, by kind, and the longest wait of a request that was taken, or 0.
-#[derive(Clone, Copy)]
+#[derive(Clone, Copy, Default)]
 pub struct Totals {
     pub own: u128,
     pub service: u128,
