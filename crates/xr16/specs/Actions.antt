@@ -7,9 +7,9 @@ use Rattle.histories.specs.declared.actions.Action.TheVariants as action
 abbrev pub action_of : ℕ → ℕ → ℕ → Action
 action_of kind high low = cond (kind == 0) action.Request (cond (kind == 1) action.Step (action.Run (high * 256 + low)))
 
--- the action at an index
-abbrev pub action_at : List ℕ → ℕ → Action
-action_at bytes i = action_of (slice_index bytes (3 * i)) (slice_index bytes (3 * i + 1)) (slice_index bytes (3 * i + 2))
+-- the action of three bytes
+abbrev pub action_in : List ℕ → Action
+action_in bytes = action_of (slice_index bytes 0) (slice_index bytes 1) (slice_index bytes 2)
 
 -- the actions that bytes are read as; one or two bytes at the end are passed over
 abbrev pub actions_of : List ℕ → List Action

@@ -7,8 +7,6 @@ use Rattle.machine.specs.declared.states.Side.TheVariants as side
 use Rattle.machine.specs.declared.states.State.{State}
 use Rattle.machine.specs.declared.answers.Step.{Step}
 use Rattle.machine.specs.declared.answers.StepRefusal.{StepRefusal}
-use Rattle.machine.specs.declared.answers.End.{End}
-use Rattle.machine.specs.declared.answers.End.TheVariants as end
 use Rattle.machine.specs.Steps.{asking, stepped}
 use Rattle.machine.specs.Runs.{no_steps, ran}
 use Rattle.histories.specs.declared.actions.Action.{Action}
@@ -40,9 +38,9 @@ step_fault (Ok made) = no_fault
 step_fault (Err refusal) = fault_of refusal
 
 -- why a run ended before its budget was spent
-abbrev pub end_fault : End → Fault
-end_fault (end.Spent) = no_fault
-end_fault (end.Refused refusal) = fault_of refusal
+abbrev pub end_fault : Result Unit StepRefusal → Fault
+end_fault (Ok spent) = no_fault
+end_fault (Err refusal) = fault_of refusal
 
 -- why an action is refused
 abbrev pub fault_in : (ℕ → Bool) → State → (ℕ → ℕ) → Action → Fault

@@ -1,5 +1,5 @@
 -- What a list of actions on a newly loaded core comes to.
-use Rattle.std.specs.Prelude.{◌≡◌, ℕ, zero, suc, ◌+◌, ◌%◌, max, List, [], ◌∷◌, ◌++◌, Ok, Err, Result, slice_index}
+use Rattle.std.specs.Prelude.{◌≡◌, ℕ, ◌+◌, ◌%◌, max, List, Ok, Err, Result}
 use Rattle.isa.specs.declared.refusals.Refusal.{Refusal}
 use Rattle.isa.specs.Refusals.{refusal_number}
 use Rattle.memory.specs.Meaning.{Meaning}
@@ -51,18 +51,13 @@ pub record Plays (actions : List Action) (s : State) (m : Meaning) (r : Totals) 
   pub state : t ≡ (played m.mark s m.byte actions).state
   pub memory : u ≡ memory_of (played m.mark s m.byte actions).bytes m.mark
 
--- what the registers below rn hold
-unfoldable pub registers_below : List ℕ → ℕ → List ℕ
-registers_below registers zero = []
-registers_below registers (suc n) = registers_below registers n ++ (slice_index registers n ∷ [])
-
 -- what is answered of a core
 abbrev pub report : ℕ → State → Totals → Playing
 report refusal s t = record {
   own = t.own;
   service = t.service;
   takings = t.takings;
-  registers = registers_below s.registers 16;
+  registers = s.registers;
   counter = s.counter;
   wait = t.wait;
   last = t.last;

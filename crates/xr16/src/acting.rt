@@ -1,36 +1,14 @@
 // One action, with what it counts and why it was refused.
-ghost use Rattle.std.specs.Prelude.{◌≡◌};
+ghost use Rattle.std.specs.Prelude.{◌≡◌, Err};
 ghost use Rattle.histories.specs.Histories.{Acts};
 ghost use Rattle.histories.specs.declared.actions.Action.TheVariants as action;
-ghost use Rattle.machine.specs.Runs.{no_steps};
 ghost use Rattle.xr16.specs.Faults as spec;
 
 use crate::answers::{Deed, Fault};
 use histories::Action;
 use isa::Refusal;
-use machine::{Core, End, Side, StepRefusal, Tally};
+use machine::{Core, Side, StepRefusal, Tally};
 use memory::Memory;
-
-pub(crate) fn no_fault() -> Fault
-    ensures { result ≡ spec.no_fault }
-{
-    Fault {
-        number: 0,
-        side: 0,
-        address: 0,
-    }
-}
-
-fn no_steps() -> Tally
-    ensures { result ≡ no_steps }
-{
-    Tally {
-        own: 0,
-        service: 0,
-        takings: 0,
-        wait: 0,
-    }
-}
 
 fn side_number(side: Side) -> u8
     ensures { result ≡ spec.side_number side }
@@ -41,39 +19,31 @@ fn side_number(side: Side) -> u8
     }
 }
 
-fn fault_of(refused: StepRefusal) -> Fault
-    ensures { result ≡ spec.fault_of refused }
-{
-    Fault {
-        number: refused.refusal.number(),
-        side: side_number(refused.side),
-        address: refused.address,
+impl From<StepRefusal> for Fault {
+    ghost from_gives = { λ refused f. f ≡ spec.fault_of refused };
+
+    fn from(refused: StepRefusal) -> Fault {
+        Fault {
+            number: refused.refusal.number(),
+            side: side_number(refused.side),
+            address: refused.address,
+        }
     }
 }
 
-fn fault_of_request(answer: Result<(), Refusal>) -> Fault
-    ensures { result ≡ spec.request_fault answer }
-{
-    match answer {
-        Ok(()) => no_fault(),
-        Err(refusal) => Fault {
+// Why a request was refused: it has no side and no address.
+impl From<Refusal> for Fault {
+    ghost from_gives = { λ refusal f. f ≡ spec.request_fault (Err refusal) };
+
+    fn from(refusal: Refusal) -> Fault {
+        Fault {
             number: refusal.number(),
-            side: 0,
-            address: 0,
-        },
+            ..Fault::default()
+        }
     }
 }
 
-fn fault_of_end(end: End) -> Fault
-    ensures { result ≡ spec.end_fault end }
-{
-    match end {
-        End::Spent => no_fault(),
-        End::Refused(refused) => fault_of(refused),
-    }
-}
-
-// A run; a step is a run of one.
+// A run; a step is a run of one. Core and memory stay two parameters, as in the core's own calls: a struct of both would only be taken apart here.
 fn spend<M: Memory>(core: &mut Core, memory: &mut M, budget: u16) -> Deed
     ensures exact { Acts (action.Run budget) core.old.state (M.Memory.means memory.old)
         result.tally core.new.state (M.Memory.means memory.new) }
@@ -84,7 +54,7 @@ fn spend<M: Memory>(core: &mut Core, memory: &mut M, budget: u16) -> Deed
     let run = core.run(memory, budget);
     Deed {
         tally: run.tally,
-        fault: fault_of_end(run.end),
+        fault: run.end.err().map(Fault::from).unwrap_or_default(),
     }
 }
 
@@ -98,8 +68,8 @@ pub(crate) fn act<M: Memory>(action: Action, core: &mut Core, memory: &mut M) ->
 {
     match action {
         Action::Request => Deed {
-            tally: no_steps(),
-            fault: fault_of_request(core.request()),
+            tally: Tally::default(),
+            fault: core.request().err().map(Fault::from).unwrap_or_default(),
         },
         Action::Step => spend(core, memory, 1),
         Action::Run(budget) => spend(core, memory, budget),

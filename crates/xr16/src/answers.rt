@@ -1,10 +1,10 @@
-// What the exported calls answer.
+// What the exported calls answer. Kinds, sides and refusals are numbers here: a C interface has no enums with values.
 use machine::Tally;
 
 // What became of a listing: the refusal's number and its index, or the text length, the image length and the longest
 // interlocked run. What does not apply is 0.
 #[repr(C)]
-#[derive(Clone, Copy)]
+#[derive(Clone, Copy, Default)]
 pub struct Assembly {
     pub refusal: u8,
     pub index: usize,
@@ -16,7 +16,7 @@ pub struct Assembly {
 // Why an action was refused: the refusal's number, and of a step its address and its side (0 own, 1 service). All are 0 where
 // it was not.
 #[repr(C)]
-#[derive(Clone, Copy)]
+#[derive(Clone, Copy, Default)]
 pub struct Fault {
     pub number: u8,
     pub side: u8,
@@ -47,7 +47,7 @@ pub(crate) struct Deed {
 }
 
 // What a list of actions came to.
-#[derive(Clone, Copy)]
+#[derive(Clone, Copy, Default)]
 pub(crate) struct Totals {
     pub own: u64,
     pub service: u64,

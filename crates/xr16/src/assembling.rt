@@ -1,5 +1,5 @@
 // The assembler's exported call.
-ghost use Rattle.std.specs.Prelude.{◌≡◌, length};
+ghost use Rattle.std.specs.Prelude.{◌≡◌, length, Ok, Err};
 ghost use Rattle.text.specs.Answer.{assembled};
 ghost use Rattle.xr16.specs.Assemblies as spec;
 
@@ -7,24 +7,28 @@ use crate::answers::Assembly;
 use assembler::assemble;
 use text::{Answers, Refused};
 
-fn assembly_of(outcome: Result<Answers, Refused>) -> Assembly
-    ensures { result ≡ spec.assembly_of outcome }
-{
-    match outcome {
-        Ok(answers) => Assembly {
-            refusal: 0,
-            index: 0,
+impl From<Answers> for Assembly {
+    ghost from_gives = { λ answers a. a ≡ spec.assembly_of (Ok answers) };
+
+    fn from(answers: Answers) -> Assembly {
+        Assembly {
             text: answers.text,
             image: answers.image,
             run: answers.run,
-        },
-        Err(refused) => Assembly {
+            ..Assembly::default()
+        }
+    }
+}
+
+impl From<Refused> for Assembly {
+    ghost from_gives = { λ refused a. a ≡ spec.assembly_of (Err refused) };
+
+    fn from(refused: Refused) -> Assembly {
+        Assembly {
             refusal: refused.refusal.number(),
             index: refused.index,
-            text: 0,
-            image: 0,
-            run: 0,
-        },
+            ..Assembly::default()
+        }
     }
 }
 
@@ -35,5 +39,5 @@ pub extern "C" fn xr16_assemble(listing: &[u8], image: &mut [u8]) -> Assembly
     ensures answer { result ≡ spec.assembly_of (assembled listing.now (length image.old)) }
     ensures image { image.new ≡ spec.image_after listing.now image.old }
 {
-    assembly_of(assemble(listing, image))
+    assemble(listing, image).map_or_else(Assembly::from, Assembly::from)
 }

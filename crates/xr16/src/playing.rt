@@ -6,74 +6,57 @@ ghost use Rattle.xr16.specs.Actions.{actions_of};
 ghost use Rattle.xr16.specs.Lent.{LentBytes};
 ghost use Rattle.xr16.specs.Playing as spec;
 
-use crate::acting::{act, no_fault};
-use crate::actions::action_at;
+use crate::acting::act;
+use crate::actions::action_of;
 use crate::answers::{Deed, Playing, Totals};
 use crate::reporting::report;
-use machine::Core;
+use machine::{Core, Layout, ServiceRange};
 use memory::{FlatMemory, Memory};
 
-fn nothing() -> Totals
-    ensures { result ≡ spec.nothing }
-{
-    Totals {
-        own: 0,
-        service: 0,
-        takings: 0,
-        wait: 0,
-        last: no_fault(),
+impl Totals {
+    // One action more: counts add up modulo 2^64, and the longest wait stays.
+    fn added(self, deed: Deed) -> Totals
+        ensures { result ≡ spec.added self deed.tally deed.fault }
+    {
+        Totals {
+            own: self.own.wrapping_add(u64::from(deed.tally.own)),
+            service: self.service.wrapping_add(u64::from(deed.tally.service)),
+            takings: self.takings.wrapping_add(u64::from(deed.tally.takings)),
+            wait: self.wait.max(deed.tally.wait),
+            last: deed.fault,
+        }
     }
 }
 
-// One action more: counts add up modulo 2^64, and the longest wait stays.
-fn added(totals: Totals, deed: Deed) -> Totals
-    ensures { result ≡ spec.added totals deed.tally deed.fault }
-{
-    Totals {
-        own: totals.own.wrapping_add(u64::from(deed.tally.own)),
-        service: totals.service.wrapping_add(u64::from(deed.tally.service)),
-        takings: totals.takings.wrapping_add(u64::from(deed.tally.takings)),
-        wait: totals.wait.max(deed.tally.wait),
-        last: deed.fault,
-    }
-}
-
-// Does the actions one after another.
+// Does the actions one after another; one or two bytes at the end are passed over.
 fn play<M: Memory>(core: &mut Core, memory: &mut M, actions: &[u8]) -> Totals
     ensures exact { spec.Plays (actions_of actions.now) core.old.state (M.Memory.means memory.old)
         result core.new.state (M.Memory.means memory.new) }
     ensures lent { M.Memory.loan memory.new ≡ M.Memory.loan memory.old }
 {
-    let mut totals = nothing();
-    for index in 0..actions.len() / 3 {
-        let deed = act(action_at(actions, index), core, memory);
-        totals = added(totals, deed);
+    let (chunks, _) = actions.as_chunks::<3>();
+    let mut totals = Totals::default();
+    for bytes in chunks {
+        totals = totals.added(act(action_of(*bytes), core, memory));
     }
     totals
 }
 
 // Loads an image into a new core and, unless the load is refused, does the actions.
-fn load_and_play<M: Memory>(
-    memory: &mut M,
-    image: &[u8],
-    text: u16,
-    lo: u16,
-    hi: u16,
-    actions: &[u8],
-) -> Playing
-    ensures answer { result ≡ (spec.playing (layout text lo hi) image.now (M.Memory.means memory.old)
+fn load_and_play<M: Memory>(memory: &mut M, image: &[u8], layout: Layout, actions: &[u8]) -> Playing
+    ensures answer { result ≡ (spec.playing layout image.now (M.Memory.means memory.old)
         (actions_of actions.now)).answer }
-    ensures memory { M.Memory.means memory.new ≡ (spec.playing (layout text lo hi) image.now
+    ensures memory { M.Memory.means memory.new ≡ (spec.playing layout image.now
         (M.Memory.means memory.old) (actions_of actions.now)).memory }
     ensures lent { M.Memory.loan memory.new ≡ M.Memory.loan memory.old }
 {
     let mut core = Core::new();
-    match core.load(memory, image, text, lo, hi) {
+    match core.load(memory, image, layout) {
         Ok(()) => {
             let totals = play(&mut core, memory, actions);
             report(&core, 0, totals)
         }
-        Err(refusal) => report(&core, refusal.number(), nothing()),
+        Err(refusal) => report(&core, refusal.number(), Totals::default()),
     }
 }
 
@@ -93,5 +76,9 @@ pub extern "C" fn xr16_play(
         (actions_of actions.now)).memory.byte memory.old memory.new }
 {
     let mut flat = FlatMemory::new(memory);
-    load_and_play(&mut flat, image, text, lo, hi, actions)
+    let layout = Layout {
+        text,
+        service: ServiceRange { low: lo, high: hi },
+    };
+    load_and_play(&mut flat, image, layout, actions)
 }
