@@ -1,60 +1,35 @@
-// The commands of the console, by what they act on.
+// The commands of the console.
 use histories::Action;
 use isa::Instruction;
+use machine::{Layout, ServiceRange};
+
+// The largest image that the assembler makes: the size of the output buffer where none is given.
+pub(crate) const LARGEST_IMAGE: usize = 65280;
 
 #[derive(Drop)]
 pub(crate) enum Command {
-    Word(WordCommand),
-    Memory(MemoryCommand),
-    Image(ImageCommand),
-    Core(CoreCommand),
-}
-
-#[derive(Clone, Copy)]
-pub(crate) enum WordCommand {
-    Read { word: u16 },
-    Write { instruction: Instruction },
-}
-
-#[derive(Clone, Copy)]
-pub(crate) enum MemoryCommand {
-    Flat { size: u32 },
-    Mapped { size: u32, pages: [u16; 16] },
-    Byte { address: u16 },
-    Store { address: u16, value: u8 },
+    Read(u16),
+    Write(Instruction),
+    // Memories by their size in bytes.
+    FlatMemory(usize),
+    MappedMemory(usize, [u16; 16]),
+    Byte(u16),
+    Store(u16, u8),
     Checksum,
-}
-
-#[derive(Drop)]
-pub(crate) enum ImageCommand {
-    Listing {
-        bytes: Vec<u8>,
-    },
-    More {
-        bytes: Vec<u8>,
-    },
-    Assemble {
-        size: u32,
-    },
-    Image {
-        bytes: Vec<u8>,
-    },
+    Listing(Vec<u8>),
+    More(Vec<u8>),
+    // The size of the output buffer.
+    Assemble(usize),
+    Image(Vec<u8>),
     Dump,
-    Rehearse {
-        lo: u16,
-        hi: u16,
-        actions: Vec<Action>,
-    },
-}
-
-#[derive(Clone, Copy)]
-pub(crate) enum CoreCommand {
-    Load { text: u16, lo: u16, hi: u16 },
+    Load(Layout),
     Request,
     Step,
-    Run { budget: u16 },
+    // The budget.
+    Run(u16),
     Counter,
     Registers,
-    Register { number: u32 },
+    Register(u32),
     Owing,
+    Rehearse(ServiceRange, Vec<Action>),
 }

@@ -1,9 +1,12 @@
 // Why a line is not obeyed: it is no command as it stands, or a call refused what it asks for.
+use crate::showing::Shown;
 use isa::Refusal;
-use machine::{Side, StepRefusal};
+use machine::StepRefusal;
 use rehearsal::Obstacle;
-use std::alloc::{AllocError, AllocFailed as NoRoom};
+use std::alloc::{AllocError, AllocFailed};
 use std::fmt;
+use std::num::{IntErrorKind, ParseIntError, TryFromIntError};
+use std::str::Utf8Error;
 use text::Refused;
 
 #[derive(Clone, Copy)]
@@ -24,44 +27,12 @@ pub(crate) enum Complaint {
 
 impl Complaint {
     // A call refused: this is an answer, and no error of the line.
-    pub(crate) fn is_refusal(self) -> bool {
-        match self {
-            Complaint::Refused(_) | Complaint::RefusedRecord(_) | Complaint::RefusedStep(_) => true,
-            _ => false,
-        }
+    pub(crate) fn is_refusal(&self) -> bool {
+        matches!(
+            self,
+            Complaint::Refused(_) | Complaint::RefusedRecord(_) | Complaint::RefusedStep(_)
+        )
     }
-}
-
-pub(crate) fn side_name(side: Side) -> &'static str {
-    match side {
-        Side::Own => "own",
-        Side::Service => "service",
-    }
-}
-
-pub(crate) fn show_refusal<W: fmt::Write>(
-    refusal: Refusal,
-    f: &mut fmt::Formatter<W>,
-) -> fmt::Result {
-    let number = refusal.number();
-    let word = refusal.word();
-    write!(f, "refused {number} {word}")
-}
-
-pub(crate) fn show_step_refusal<W: fmt::Write>(
-    refused: StepRefusal,
-    f: &mut fmt::Formatter<W>,
-) -> fmt::Result {
-    let address = refused.address;
-    let side = side_name(refused.side);
-    show_refusal(refused.refusal, f)?;
-    write!(f, " at {address:04X} {side}")
-}
-
-fn show_record_refusal<W: fmt::Write>(refused: Refused, f: &mut fmt::Formatter<W>) -> fmt::Result {
-    let index = refused.index;
-    show_refusal(refused.refusal, f)?;
-    write!(f, " record {index}")
 }
 
 impl fmt::Display for Complaint {
@@ -76,9 +47,9 @@ impl fmt::Display for Complaint {
             Complaint::BadBytes => write!(f, "bad bytes"),
             Complaint::TooLarge => write!(f, "number too large"),
             Complaint::NoMemory => write!(f, "out of memory"),
-            Complaint::Refused(refusal) => show_refusal(refusal, f),
-            Complaint::RefusedRecord(refused) => show_record_refusal(refused, f),
-            Complaint::RefusedStep(refused) => show_step_refusal(refused, f),
+            Complaint::Refused(refusal) => write!(f, "refused {refusal}"),
+            Complaint::RefusedRecord(refused) => write!(f, "refused {}", Shown(refused)),
+            Complaint::RefusedStep(refused) => write!(f, "refused {}", Shown(refused)),
         }
     }
 }
@@ -101,25 +72,44 @@ impl From<StepRefusal> for Complaint {
     }
 }
 
+impl From<Obstacle> for Complaint {
+    fn from(obstacle: Obstacle) -> Complaint {
+        match obstacle {
+            Obstacle::Assembly(refused) => refused.into(),
+            Obstacle::Loading(refusal) | Obstacle::TwinLoading(refusal) => refusal.into(),
+        }
+    }
+}
+
+impl From<Utf8Error> for Complaint {
+    fn from(_error: Utf8Error) -> Complaint {
+        Complaint::NotText
+    }
+}
+
+impl From<ParseIntError> for Complaint {
+    fn from(error: ParseIntError) -> Complaint {
+        match error.kind() {
+            IntErrorKind::PosOverflow => Complaint::TooLarge,
+            _ => Complaint::BadNumber,
+        }
+    }
+}
+
+impl From<TryFromIntError> for Complaint {
+    fn from(_error: TryFromIntError) -> Complaint {
+        Complaint::TooLarge
+    }
+}
+
 impl From<AllocError> for Complaint {
     fn from(_error: AllocError) -> Complaint {
         Complaint::NoMemory
     }
 }
 
-impl From<Obstacle> for Complaint {
-    fn from(obstacle: Obstacle) -> Complaint {
-        match obstacle {
-            Obstacle::Assembly(refused) => Complaint::RefusedRecord(refused),
-            Obstacle::Loading(refusal) | Obstacle::TwinLoading(refusal) => Complaint::Refused(
-                refusal,
-            ),
-        }
-    }
-}
-
-impl<T: Drop> From<NoRoom<T>> for Complaint {
-    fn from(_value: NoRoom<T>) -> Complaint {
+impl<T: Drop> From<AllocFailed<T>> for Complaint {
+    fn from(_value: AllocFailed<T>) -> Complaint {
         Complaint::NoMemory
     }
 }

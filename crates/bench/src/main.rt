@@ -5,9 +5,11 @@ mod answers;
 mod commands;
 mod complaints;
 mod console;
+mod memories;
 mod names;
 mod numbers;
 mod parsing;
+mod showing;
 
 use answers::Answer;
 use complaints::Complaint;
@@ -15,31 +17,12 @@ use console::Console;
 use std::io::{BufRead, BufReader};
 
 // What a line answers; nothing where it is blank or a comment.
-fn answer_to(console: &mut Console, line: &[u8]) -> Result<Option<Answer>, Complaint> {
-    let Ok(text) = std::str::from_utf8(line) else {
-        return Err(Complaint::NotText);
-    };
+fn answer_to<'a>(console: &'a mut Console, line: &[u8]) -> Result<Option<Answer<'a>>, Complaint> {
+    let text = std::str::from_utf8(line)?;
     match parsing::parse(console.heap(), text)? {
         Some(command) => Ok(Some(console.obey(command)?)),
         None => Ok(None),
     }
-}
-
-// The image, sixteen bytes to a row, as words of two; an odd last byte stands alone.
-fn print_image(rt: &HostRuntime, image: &[u8]) -> anyhow::Result<()> {
-    for (row, bytes) in image.chunks(16).enumerate() {
-        let address = row.saturating_mul(16);
-        print!(rt; "{address:04X}:")?;
-        for word in bytes.chunks(2) {
-            match word {
-                [high, low] => print!(rt; " {high:02X}{low:02X}")?,
-                [last] => print!(rt; " {last:02X}")?,
-                _ => {}
-            }
-        }
-        println!(rt; "")?;
-    }
-    Ok(())
 }
 
 fn respond(
@@ -49,8 +32,8 @@ fn respond(
     line: &[u8],
 ) -> anyhow::Result<()> {
     match answer_to(console, line) {
-        Ok(None) => Ok(()),
-        Ok(Some(Answer::Image)) => print_image(rt, console.image()),
+        // An image without bytes has no rows.
+        Ok(None | Some(Answer::Image([]))) => Ok(()),
         Ok(Some(answer)) => Ok(println!(rt; "{answer}")?),
         Err(complaint) if complaint.is_refusal() => Ok(println!(rt; "{complaint}")?),
         Err(complaint) => Ok(println!(rt; "error line {number}: {complaint}")?),
@@ -59,10 +42,9 @@ fn respond(
 
 fn run(rt: &HostRuntime) -> anyhow::Result<()> {
     let mut console = Console::new(rt.alloc())?;
-    let mut number = 0u64;
-    for line in BufReader::new(rt.alloc(), rt.stdin())?.split(rt.alloc(), b'\n') {
+    let lines = BufReader::new(rt.alloc(), rt.stdin())?.split(rt.alloc(), b'\n');
+    for (number, line) in (1u64..).zip(lines) {
         let line = line?;
-        number = number.saturating_add(1);
         respond(rt, &mut console, number, line.as_slice())?;
     }
     Ok(())

@@ -2,60 +2,34 @@
 use crate::complaints::Complaint;
 use crate::numbers;
 use isa::{Instruction, Refusal, read};
+use std::num::TryFromIntError;
 use std::str::SplitWhitespace;
 
+// The N numbers that end the line.
+fn last_numbers<const N: usize>(words: &mut SplitWhitespace<'_>) -> Result<[u32; N], Complaint> {
+    let mut numbers = [0; N];
+    for number in numbers.iter_mut() {
+        *number = numbers::number(words)?;
+    }
+    numbers::end(words)?;
+    Ok(numbers)
+}
+
 // A number that no field can hold is refused as a field is, once the line has all its words.
-fn field(number: u32) -> Result<u8, Complaint> {
-    match u8::try_from(number) {
-        Ok(bits) => Ok(bits),
-        Err(_) => Err(Complaint::Refused(Refusal::Field)),
-    }
-}
-
-fn one_field(words: &mut SplitWhitespace<'_>) -> Result<u8, Complaint> {
-    let first = numbers::number(words)?;
-    numbers::end(words)?;
-    field(first)
-}
-
-fn two_fields(words: &mut SplitWhitespace<'_>) -> Result<(u8, u8), Complaint> {
-    let first = numbers::number(words)?;
-    let second = numbers::number(words)?;
-    numbers::end(words)?;
-    Ok((field(first)?, field(second)?))
-}
-
-fn three_fields(words: &mut SplitWhitespace<'_>) -> Result<(u8, u8, u8), Complaint> {
-    let first = numbers::number(words)?;
-    let second = numbers::number(words)?;
-    let third = numbers::number(words)?;
-    numbers::end(words)?;
-    Ok((field(first)?, field(second)?, field(third)?))
-}
-
-fn long_field(words: &mut SplitWhitespace<'_>) -> Result<u16, Complaint> {
-    let first = numbers::number(words)?;
-    numbers::end(words)?;
-    match u16::try_from(first) {
-        Ok(bits) => Ok(bits),
-        Err(_) => Err(Complaint::Refused(Refusal::Field)),
-    }
+fn field<T: TryFrom<u32, Error = TryFromIntError>>(number: u32) -> Result<T, Complaint> {
+    Ok(T::try_from(number).map_err(|_| Refusal::Field)?)
 }
 
 // The instruction of a name, with all its fields 0. Every kind of instruction has a word whose last four bits are 0.
 fn named(name: &str) -> Option<Instruction> {
-    for high in 0..0x1000u16 {
-        if let Ok(instruction) = read(high * 16) {
-            if instruction.mnemonic() == name {
-                return Some(instruction);
-            }
-        }
-    }
-    None
+    (0..=u16::MAX)
+        .step_by(16)
+        .filter_map(|word| read(word).ok())
+        .find(|kind| kind.mnemonic() == name)
 }
 
 // The instruction of an opcode that has rd, ra and a third field.
-fn three_field(kind: Instruction, (rd, ra, last): (u8, u8, u8)) -> Instruction {
+fn three_field(kind: Instruction, rd: u8, ra: u8, last: u8) -> Instruction {
     match kind {
         Instruction::Add { .. } => Instruction::Add { rd, ra, rb: last },
         Instruction::Sub { .. } => Instruction::Sub { rd, ra, rb: last },
@@ -71,28 +45,46 @@ fn three_field(kind: Instruction, (rd, ra, last): (u8, u8, u8)) -> Instruction {
 
 // The instruction of a name and the fields that follow it on the line.
 pub(crate) fn instruction(words: &mut SplitWhitespace<'_>) -> Result<Instruction, Complaint> {
-    let Some(kind) = named(numbers::word(words)?) else {
-        return Err(Complaint::UnknownName);
-    };
+    let kind = named(numbers::word(words)?).ok_or(Complaint::UnknownName)?;
     match kind {
         Instruction::Register { function, .. } => {
-            let (rd, rb) = two_fields(words)?;
-            Ok(Instruction::Register { function, rd, rb })
+            let [rd, rb] = last_numbers::<2>(words)?;
+            Ok(Instruction::Register {
+                function,
+                rd: field(rd)?,
+                rb: field(rb)?,
+            })
         }
         Instruction::Immediate { function, .. } => {
-            let (rd, imm) = two_fields(words)?;
-            Ok(Instruction::Immediate { function, rd, imm })
+            let [rd, imm] = last_numbers::<2>(words)?;
+            Ok(Instruction::Immediate {
+                function,
+                rd: field(rd)?,
+                imm: field(imm)?,
+            })
         }
-        Instruction::Branch { condition, .. } => Ok(Instruction::Branch {
-            condition,
-            displacement: one_field(words)?,
-        }),
-        Instruction::Call { .. } => Ok(Instruction::Call {
-            imm12: long_field(words)?,
-        }),
-        Instruction::Imm { .. } => Ok(Instruction::Imm {
-            imm12: long_field(words)?,
-        }),
-        _ => Ok(three_field(kind, three_fields(words)?)),
+        Instruction::Branch { condition, .. } => {
+            let [displacement] = last_numbers::<1>(words)?;
+            Ok(Instruction::Branch {
+                condition,
+                displacement: field(displacement)?,
+            })
+        }
+        Instruction::Call { .. } => {
+            let [imm12] = last_numbers::<1>(words)?;
+            Ok(Instruction::Call {
+                imm12: field(imm12)?,
+            })
+        }
+        Instruction::Imm { .. } => {
+            let [imm12] = last_numbers::<1>(words)?;
+            Ok(Instruction::Imm {
+                imm12: field(imm12)?,
+            })
+        }
+        _ => {
+            let [rd, ra, last] = last_numbers::<3>(words)?;
+            Ok(three_field(kind, field(rd)?, field(ra)?, field(last)?))
+        }
     }
 }
