@@ -1,6 +1,4 @@
 // The tidal constituents of the display, and the height that each adds.
-ghost use Rattle.std.specs.Prelude.{◌<◌};
-
 // How many constituents are summed.
 pub(crate) const COUNT: usize = 30;
 
@@ -56,12 +54,8 @@ const COSINES: [i32; PARTS] = [
     981, 831, 556, 195, -195, -556, -831, -981, -981, -831, -556, -195, 195, 556, 831, 981,
 ];
 
-impl Constituent {
-    // The constituent of a number, from 0.
-    pub(crate) fn numbered(number: usize) -> Constituent
-        requires { number < 30 }
-    {
-        let (name, speed, start, amplitude) = TABLE[number];
+impl From<(&'static str, u32, u32, i32)> for Constituent {
+    fn from((name, speed, start, amplitude): (&'static str, u32, u32, i32)) -> Constituent {
         Constituent {
             name,
             speed,
@@ -69,12 +63,22 @@ impl Constituent {
             amplitude,
         }
     }
+}
 
-    // The height that it adds in a sixteenth of its turn, in millimetres.
-    pub(crate) fn height(self, part: usize) -> i32
-        requires { part < 16 }
-    {
-        self.amplitude.wrapping_mul(COSINES[part]) / 1000
+// All constituents, the first with number 0.
+pub(crate) fn constituents() -> [Constituent; COUNT] {
+    TABLE.map(Constituent::from)
+}
+
+impl Constituent {
+    // The height that it adds where its phase has this cosine, in millimetres.
+    fn height(self, cosine: i32) -> i32 {
+        self.amplitude.wrapping_mul(cosine) / 1000
+    }
+
+    // The heights that it adds in the sixteenths of its turn.
+    pub(crate) fn heights(self) -> [i32; PARTS] {
+        COSINES.map(|cosine| self.height(cosine))
     }
 
     // Its phase after so many half hours.
@@ -84,6 +88,6 @@ impl Constituent {
 
     // The height that it adds after so many half hours.
     pub(crate) fn height_after(self, half_hours: u32) -> i32 {
-        self.height((self.phase(half_hours) / 0x1000_0000) as usize)
+        self.height(COSINES[(self.phase(half_hours) >> 28) as usize])
     }
 }

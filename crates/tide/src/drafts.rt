@@ -1,5 +1,4 @@
 // A listing that is written record by record.
-use crate::troubles::granted;
 use listing::{Operation, Record};
 use std::alloc::Global;
 
@@ -98,8 +97,7 @@ impl Draft {
     // Writes records at the end.
     pub(crate) fn put(&mut self, records: &[Record]) -> anyhow::Result<()> {
         for record in records {
-            let bytes = granted(record.write())?;
-            self.bytes.extend_from_slice(&bytes)?;
+            self.bytes.extend_from_slice(&record.write()?)?;
         }
         Ok(())
     }

@@ -4,26 +4,25 @@
 mod constituents;
 mod drafts;
 mod faults;
+mod images;
 mod placings;
 mod printing;
 mod programs;
-mod troubles;
 mod workshop;
 
 use placings::{Tide, place_one, place_two};
-use printing::{print_faults, print_findings, print_phases, print_sizes, print_tide};
-use programs::{Fault, listing_with};
+use printing::{print_faults, print_phases, print_sizes, print_tide};
+use programs::listing_with;
 use workshop::Workshop;
 
 // Rehearses the tide with one request at every place, and with two among the first places.
 fn rehearse(rt: &HostRuntime, workshop: &mut Workshop, tide: &Tide) -> anyhow::Result<()> {
-    let mut waits = Vec::new(rt.alloc());
     println!(rt; "One request, before each own step in turn")?;
-    let one = place_one(workshop, tide, &mut waits)?;
-    print_findings(rt, &one)?;
+    let (one, waits) = place_one(rt.alloc(), workshop, tide)?;
+    println!(rt; "{one}")?;
     println!(rt; "Two requests, before each two of the first hundred own steps")?;
     let two = place_two(workshop, tide, waits.as_slice())?;
-    print_findings(rt, &two)?;
+    println!(rt; "{two}")?;
     let steps = one.steps.saturating_add(two.steps);
     println!(rt; "steps made in all rehearsals, the twins' among them: {steps}\n")?;
     Ok(())
@@ -31,7 +30,7 @@ fn rehearse(rt: &HostRuntime, workshop: &mut Workshop, tide: &Tide) -> anyhow::R
 
 fn run(rt: &HostRuntime) -> anyhow::Result<()> {
     let heap = rt.alloc();
-    let mut workshop = Workshop::new(heap, listing_with(heap, Fault::None)?)?;
+    let mut workshop = Workshop::new(heap, listing_with(heap, None)?)?;
     print_sizes(rt, &mut workshop)?;
     let mapped = workshop.run_mapped()?;
     let tide = workshop.run_flat()?;

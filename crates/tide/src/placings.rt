@@ -1,12 +1,13 @@
 // Requests placed among the own steps of one tide, each placing rehearsed.
 ghost use Rattle.std.specs.Prelude.{◌≤◌};
 
-use crate::troubles::refused;
-use crate::workshop::{Curve, Workshop, curve_in, loaded, same_curve};
+use crate::images::{Curve, Image};
+use crate::workshop::Workshop;
 use histories::Action;
-use machine::{Side, Step};
+use machine::{Core, Side, Step};
 use memory::Memory;
-use rehearsal::{Program, Report, same_answer};
+use rehearsal::{Program, Report};
+use std::alloc::Global;
 
 // The own steps of one tide, up to and with the first turn of its last loop; the steps of one service; the heights.
 #[derive(Clone, Copy)]
@@ -33,26 +34,28 @@ pub(crate) struct Findings {
 // Two requests are tried before each two of so many own steps.
 const PAIRED_PLACES: u16 = 100;
 
-// Runs the tide once, and a request after it to see how long a service takes.
-pub(crate) fn measure<M: Memory>(memory: &mut M, image: &[u8], text: u16) -> anyhow::Result<Tide> {
-    let mut core = loaded(memory, image, text)?;
-    let mut own = 0u16;
-    for _ in 0..u16::MAX {
+// Steps up to and with the first turn of the tide's last loop, and counts the steps.
+fn count_own<M: Memory>(core: &mut Core, memory: &mut M) -> anyhow::Result<u16> {
+    for own in 1..=u16::MAX {
         let before = core.counter();
-        if let Err(stopped) = core.step(memory) {
-            return Err(refused(stopped.refusal));
-        }
-        own = own.saturating_add(1);
+        core.step(memory).map_err(|refused| refused.refusal)?;
         if core.counter() == before {
-            break;
+            return Ok(own);
         }
     }
+    Ok(u16::MAX)
+}
+
+// Runs the tide once, and a request after it to see how long a service takes.
+pub(crate) fn measure<M: Memory>(memory: &mut M, image: Image<'_>) -> anyhow::Result<Tide> {
+    let mut core = image.load(memory)?;
+    let own = count_own(&mut core, memory)?;
     let _ = core.request();
     let service = core.run(memory, 100).tally.service;
     Ok(Tide {
         own,
         service,
-        curve: curve_in(memory, text),
+        curve: image.curve(memory),
     })
 }
 
@@ -65,10 +68,7 @@ impl Tide {
 
 // Whether the one step more was an own step that the twin's answered alike.
 fn goes_on_alike(report: &Report) -> bool {
-    match report.next {
-        Ok(Step::Made(Side::Own)) => same_answer(report.next, report.twin_next),
-        _ => false,
-    }
+    report.next == Ok(Step::Made(Side::Own)) && report.next == report.twin_next
 }
 
 impl Findings {
@@ -90,45 +90,37 @@ impl Findings {
         requires { report.now.totals.wait ≤ report.now.limit }
     {
         let totals = report.totals;
-        let same = match report.program {
-            Program::Same => true,
-            _ => false,
-        };
         let counted = totals.own == u128::from(tide.own)
             && totals.takings == u128::from(workshop.ticks());
-        let alike = report.kept && same && goes_on_alike(report);
-        if !(counted && alike && same_curve(&tide.curve, &workshop.curve())) {
-            self.marked = self.marked.saturating_add(1);
-        }
-        let steps = self
-            .steps
-            .saturating_add(totals.own)
-            .saturating_add(totals.own)
-            .saturating_add(totals.service)
-            .saturating_add(totals.takings)
-            .saturating_add(2);
+        let alike = report.kept && matches!(report.program, Program::Same) && goes_on_alike(report);
+        let unmarked = counted && alike && workshop.curve() == tide.curve;
+        let refused = requests.saturating_sub(totals.takings);
         *self = Findings {
             placings: self.placings.saturating_add(1),
             takings: self.takings.saturating_add(totals.takings),
-            refused: self
-                .refused
-                .saturating_add(requests.saturating_sub(totals.takings)),
+            refused: self.refused.saturating_add(refused),
             least: self.least.min(totals.wait),
             greatest: self.greatest.max(totals.wait),
             limit: self.limit.max(report.limit),
-            marked: self.marked,
-            steps,
+            marked: self.marked.saturating_add(u32::from(!unmarked)),
+            steps: self
+                .steps
+                .saturating_add(totals.own.saturating_mul(2))
+                .saturating_add(totals.service)
+                .saturating_add(totals.takings)
+                .saturating_add(2),
         };
     }
 }
 
-// One request before each own step in turn; the waits are kept by place.
+// One request before each own step in turn, and the wait at each place.
 pub(crate) fn place_one(
+    heap: Global,
     workshop: &mut Workshop,
     tide: &Tide,
-    waits: &mut Vec<u16>,
-) -> anyhow::Result<Findings> {
+) -> anyhow::Result<(Findings, Vec<u16>)> {
     let mut findings = Findings::new();
+    let mut waits = Vec::new(heap);
     for place in 0..tide.own {
         let rest = tide.own.saturating_sub(place);
         let actions = [
@@ -138,9 +130,9 @@ pub(crate) fn place_one(
         ];
         let report = workshop.rehearse(&actions)?;
         findings.note(workshop, tide, 1, &report);
-        waits.extend_from_slice(&[report.totals.wait])?;
+        waits.push(report.totals.wait)?;
     }
-    Ok(findings)
+    Ok((findings, waits))
 }
 
 // Two requests at each two of the first places. Where the first still waits at the second place, the second is refused.
@@ -151,13 +143,9 @@ pub(crate) fn place_two(
 ) -> anyhow::Result<Findings> {
     let mut findings = Findings::new();
     for second in 0..PAIRED_PLACES {
-        for first in 0..second {
+        for (first, wait) in (0..second).zip(waits) {
             let between = second.saturating_sub(first);
-            let waits_on = match waits.get(first as usize) {
-                Some(wait) => *wait > between,
-                None => false,
-            };
-            let budget = if waits_on {
+            let budget = if *wait > between {
                 between
             } else {
                 tide.with_service(between)

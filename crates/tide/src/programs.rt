@@ -1,10 +1,11 @@
 // The program of the display: each phase goes on by its speed, its height is looked up, and the sum is stored.
 ghost use Rattle.std.specs.Prelude.{◌<◌};
 
-use crate::constituents::{COUNT, Constituent, PARTS};
+use crate::constituents::{Constituent, constituents};
 use crate::drafts::{Draft, Label, constant, define, plain, reference, registers, word};
 use isa::{Condition, ImmediateFunction, RegisterFunction};
 use listing::{Operation, Record};
+use machine::ServiceRange;
 use std::alloc::Global;
 
 // How many heights make one tide, half an hour apart.
@@ -13,10 +14,10 @@ pub(crate) const HEIGHTS: usize = 26;
 // What the sum begins with, in millimetres above the chart's datum.
 pub(crate) const MEAN_LEVEL: i32 = 4200;
 
-// The service range.
-pub(crate) const LOW: u16 = 0x0010;
-
-pub(crate) const HIGH: u16 = 0x0028;
+pub(crate) const SERVICE: ServiceRange = ServiceRange {
+    low: 0x0010,
+    high: 0x0028,
+};
 
 // Where the service counts its ticks.
 pub(crate) const TICKS: u16 = 0x0024;
@@ -57,10 +58,9 @@ const BLOCKS_END: u8 = 12;
 
 const CURVE_END: u8 = 13;
 
-// A program as it should be, or with one fault.
-#[derive(Clone, Copy)]
+// What may be wrong with a program.
+#[derive(Clone, Copy, PartialEq, Eq)]
 pub(crate) enum Fault {
-    None,
     // The service does not give back the register that it counts with.
     KeepsRegister,
     // The high half of the speed is loaded between the sum and its carry.
@@ -89,11 +89,12 @@ fn closing() -> [Record; 5] {
 }
 
 // The service routine: it counts a tick and gives back the register that it counts with.
-fn put_service(draft: &mut Draft, fault: Fault) -> anyhow::Result<()> {
+fn put_service(draft: &mut Draft, fault: Option<Fault>) -> anyhow::Result<()> {
     draft.put(&counting())?;
-    match fault {
-        Fault::KeepsRegister => draft.put(&[plain(Operation::Nop), plain(Operation::Nop)])?,
-        _ => draft.put(&[reference(Operation::Lw, 1, ZERO, Label::Kept)])?,
+    if fault == Some(Fault::KeepsRegister) {
+        draft.put(&[plain(Operation::Nop), plain(Operation::Nop)])?;
+    } else {
+        draft.put(&[reference(Operation::Lw, 1, ZERO, Label::Kept)])?;
     }
     draft.put(&closing())
 }
@@ -119,27 +120,46 @@ fn before_height() -> [Record; 5] {
     ]
 }
 
+// One of the constituents of a group, by its number there.
+#[derive(Clone, Copy)]
+struct Member {
+    number: u16,
+    ghost grouped: { number < 5 },
+}
+
+impl Member {
+    // Where its block begins, from the first block of the group.
+    fn block(self) -> u16
+        ensures { result < 40 }
+    {
+        self.number * BLOCK_SIZE
+    }
+
+    // Where its table begins, from the first table of the group.
+    fn table(self) -> u16 {
+        self.number * TABLE_SIZE
+    }
+}
+
 // A load or a store of a block's half, or of its first byte, at an offset.
 fn in_block(operation: Operation, register: u8, offset: u16) -> Record {
     constant(operation, register, BLOCK, i32::from(offset))
 }
 
-// The halves of the phase and the speed of the block at an offset are loaded.
-fn loading(offset: u16) -> [Record; 4]
-    requires { offset < 1000 }
-{
+// The halves of the phase and the speed are loaded.
+fn loading(member: Member) -> [Record; 4] {
+    let block = member.block();
     [
-        in_block(Operation::Lw, PHASE_LOW, offset + 2),
-        in_block(Operation::Lw, SPEED_LOW, offset + 6),
-        in_block(Operation::Lw, SPEED_HIGH, offset + 4),
-        in_block(Operation::Lw, PHASE_HIGH, offset),
+        in_block(Operation::Lw, PHASE_LOW, block + 2),
+        in_block(Operation::Lw, SPEED_LOW, block + 6),
+        in_block(Operation::Lw, SPEED_HIGH, block + 4),
+        in_block(Operation::Lw, PHASE_HIGH, block),
     ]
 }
 
 // The carry goes into the high half, and both halves are stored.
-fn carrying(offset: u16) -> [Record; 3]
-    requires { offset < 1000 }
-{
+fn carrying(member: Member) -> [Record; 3] {
+    let block = member.block();
     [
         registers(
             Operation::Register(RegisterFunction::Adc),
@@ -147,15 +167,15 @@ fn carrying(offset: u16) -> [Record; 3]
             0,
             SPEED_HIGH,
         ),
-        in_block(Operation::Sw, PHASE_LOW, offset + 2),
-        in_block(Operation::Sw, PHASE_HIGH, offset),
+        in_block(Operation::Sw, PHASE_LOW, block + 2),
+        in_block(Operation::Sw, PHASE_HIGH, block),
     ]
 }
 
 // The upper four bits of the phase choose the height, which is added to the sum.
-fn looking_up(offset: u16, table: u16) -> [Record; 6] {
+fn looking_up(member: Member) -> [Record; 6] {
     [
-        in_block(Operation::Lb, HEIGHT, offset),
+        in_block(Operation::Lb, HEIGHT, member.block()),
         constant(
             Operation::Immediate(ImmediateFunction::Andi),
             HEIGHT,
@@ -164,23 +184,20 @@ fn looking_up(offset: u16, table: u16) -> [Record; 6] {
         ),
         constant(Operation::Immediate(ImmediateFunction::Srli), HEIGHT, 0, 3),
         registers(Operation::Add, HEIGHT, HEIGHT, TABLE),
-        constant(Operation::Lw, HEIGHT, HEIGHT, i32::from(table)),
+        constant(Operation::Lw, HEIGHT, HEIGHT, i32::from(member.table())),
         registers(Operation::Add, SUM, SUM, HEIGHT),
     ]
 }
 
-// The phase of one constituent of a group goes on by its speed, and its height is added.
-fn put_constituent(draft: &mut Draft, number: u16, fault: Fault) -> anyhow::Result<()>
-    requires { number < 5 }
-{
-    let offset = number * BLOCK_SIZE;
-    draft.put(&loading(offset))?;
+// The phase of one constituent goes on by its speed, and its height is added.
+fn put_constituent(draft: &mut Draft, member: Member, fault: Option<Fault>) -> anyhow::Result<()> {
+    draft.put(&loading(member))?;
     draft.put(&[registers(Operation::Add, PHASE_LOW, PHASE_LOW, SPEED_LOW)])?;
-    if let Fault::PartsCarry = fault {
-        draft.put(&[in_block(Operation::Lw, SPEED_HIGH, offset + 4)])?;
+    if fault == Some(Fault::PartsCarry) {
+        draft.put(&[in_block(Operation::Lw, SPEED_HIGH, member.block() + 4)])?;
     }
-    draft.put(&carrying(offset))?;
-    draft.put(&looking_up(offset, number * TABLE_SIZE))
+    draft.put(&carrying(member))?;
+    draft.put(&looking_up(member))
 }
 
 // The next group, until all constituents are summed.
@@ -206,7 +223,7 @@ fn next_height() -> [Record; 7] {
     ]
 }
 
-fn put_text(draft: &mut Draft, fault: Fault) -> anyhow::Result<()> {
+fn put_text(draft: &mut Draft, fault: Option<Fault>) -> anyhow::Result<()> {
     draft.put(&[
         reference(Operation::J, 0, ZERO, Label::Start),
         constant(Operation::Align, 0, 0, 16),
@@ -215,45 +232,31 @@ fn put_text(draft: &mut Draft, fault: Fault) -> anyhow::Result<()> {
     draft.put(&beginning())?;
     draft.put(&before_height())?;
     for number in 0..GROUP {
-        put_constituent(draft, number, fault)?;
+        put_constituent(draft, Member { number }, fault)?;
     }
     draft.put(&next_group())?;
     draft.put(&next_height())
 }
 
-fn high_half(value: u32) -> Record {
-    word((value / 0x1_0000) as i32)
-}
-
-fn low_half(value: u32) -> Record {
-    word((value % 0x1_0000) as i32)
+// The words of the two halves of a number, the high half first.
+fn halves(value: u32) -> [Record; 2] {
+    [
+        word((value / 0x1_0000) as i32),
+        word((value % 0x1_0000) as i32),
+    ]
 }
 
 fn put_blocks(draft: &mut Draft) -> anyhow::Result<()> {
-    for number in 0..COUNT {
-        let Constituent { start, speed, .. } = Constituent::numbered(number);
-        draft.put(&[
-            high_half(start),
-            low_half(start),
-            high_half(speed),
-            low_half(speed),
-        ])?;
+    for Constituent { start, speed, .. } in constituents() {
+        draft.put(&halves(start))?;
+        draft.put(&halves(speed))?;
     }
     Ok(())
 }
 
-// The heights of one constituent.
-fn heights_of(constituent: Constituent) -> [Record; PARTS] {
-    let mut records = [word(0); PARTS];
-    for part in 0..PARTS {
-        records[part] = word(constituent.height(part));
-    }
-    records
-}
-
 fn put_tables(draft: &mut Draft) -> anyhow::Result<()> {
-    for number in 0..COUNT {
-        draft.put(&heights_of(Constituent::numbered(number)))?;
+    for constituent in constituents() {
+        draft.put(&constituent.heights().map(word))?;
     }
     Ok(())
 }
@@ -269,8 +272,8 @@ fn put_data(draft: &mut Draft) -> anyhow::Result<()> {
     draft.put(&[define(Label::CurveEnd)])
 }
 
-// The whole listing.
-pub(crate) fn listing_with(heap: Global, fault: Fault) -> anyhow::Result<Vec<u8>> {
+// The whole listing, of the program as it should be or with one fault.
+pub(crate) fn listing_with(heap: Global, fault: Option<Fault>) -> anyhow::Result<Vec<u8>> {
     let mut draft = Draft::new(heap);
     put_text(&mut draft, fault)?;
     put_data(&mut draft)?;
@@ -279,9 +282,7 @@ pub(crate) fn listing_with(heap: Global, fault: Fault) -> anyhow::Result<Vec<u8>
 
 // The sum of all heights after so many half hours, in 32 bits and without the core.
 pub(crate) fn expected_height(half_hours: u32) -> i32 {
-    let mut sum = MEAN_LEVEL;
-    for number in 0..COUNT {
-        sum = sum.wrapping_add(Constituent::numbered(number).height_after(half_hours));
-    }
-    sum
+    constituents().iter().fold(MEAN_LEVEL, |sum, constituent| {
+        sum.wrapping_add(constituent.height_after(half_hours))
+    })
 }
