@@ -1,4 +1,5 @@
-// The worked examples, computed from the definitions that the contracts cite.
+// The worked examples, computed from the definitions that the contracts cite. Those of the assembler alone stand in `text` too,
+// below the core, where each of its definitions is tried in seconds.
 #![tactic(auto)]
 
 ghost use Rattle.std.specs.Prelude.{◌≡◌, true, length};

@@ -8,7 +8,7 @@ use crate::actions::Action;
 use machine::{Core, Side, Step, Tally};
 use memory::Memory;
 
-// The tally of a single step that succeeded, which a run's steps count like.
+// The tally of a single step that succeeded, which a run's steps count like. A function and no From: both types are machine's.
 #[tactic(auto, using(crate::proofs::Counting::steps_are_counted))]
 pub fn tally_of_step(step: Step) -> Tally
     ensures exact { result ≡ count.counted count.no_steps step }
@@ -32,7 +32,8 @@ pub fn tally_of_step(step: Step) -> Tally
 }
 
 impl Action {
-    // Does this to a core over a memory, and tallies the steps that succeeded.
+    // Does this to a core over a memory, and tallies the steps that succeeded. Core and memory stay two parameters, as in the core's
+    // own calls, since the memory is the caller's.
     pub fn act<M: Memory>(self, core: &mut Core, memory: &mut M) -> Tally
         ensures exact { spec.Acts self core.old.state (M.Memory.means memory.old)
             result core.new.state (M.Memory.means memory.new) }

@@ -1,4 +1,5 @@
-// The registers of an instruction, and whether a request may be taken after it.
+// The registers of an instruction, and whether a request may be taken after it. A register is its number, as in the word, and r0 the
+// number for none: writing r0 has no effect and reading it no hazard, so an Option would add a case that changes nothing.
 ghost use Rattle.std.specs.Prelude.{◌≡◌};
 ghost use Rattle.isa.specs.Registers as spec;
 

@@ -77,7 +77,7 @@ pub enum Mend {
 }
 
 // What the layout wants to know of a record's words: how the first is mended, how many there are, the
-// register that the last one writes, and whether adc or sbc is in hazard.
+// register that the last one writes, r0 for none, and whether adc or sbc is in hazard.
 #[derive(Clone, Copy, PartialEq, Eq)]
 pub struct Outline {
     pub mend: Mend,

@@ -17,7 +17,8 @@ pub struct StepRefusal {
     pub side: Side,
 }
 
-// How many steps of each kind succeeded, and the wait of the request that was taken, or 0.
+// How many steps of each kind succeeded, and the wait of the request that was taken, or 0: takings are counted and not an Option,
+// so that tallies add up.
 #[derive(Clone, Copy, PartialEq, Eq, Default)]
 pub struct Tally {
     pub own: u16,

@@ -20,5 +20,6 @@ pub trait Memory {
 
     fn store(&mut self, address: u16, value: u8)
         ensures meaning { means self.new ≡ stored (means self.old) address value }
+        // Of before and after, so no invariant of a type can say it: each function over a memory repeats it.
         ensures lent { loan self.new ≡ loan self.old };
 }

@@ -1,6 +1,7 @@
 // The plain values between an instruction and the core.
 
 // What the word before left for the next: the operands a and b of a sum with its carry or borrow, or the bit that a shift moved out.
+// `Nothing` is one of three things that can be left, so this is no Option.
 #[derive(Clone, Copy, PartialEq, Eq)]
 pub enum Forerunner {
     Nothing,

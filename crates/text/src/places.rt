@@ -2,7 +2,7 @@
 use listing::Section;
 
 // The section that the next record stands in, the lengths of both sections, and the register that the
-// last text word writes.
+// last text word writes, r0 for none.
 #[derive(Clone, Copy, PartialEq, Eq)]
 pub struct Place {
     pub section: Section,
@@ -18,6 +18,7 @@ pub struct Mark {
     pub offset: u32,
 }
 
+// What each of all labels that there can be names: an array, since the calls take no heap.
 #[derive(Clone, Copy, PartialEq, Eq)]
 pub struct Layout {
     pub place: Place,
