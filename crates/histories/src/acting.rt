@@ -9,6 +9,7 @@ use machine::{Core, Side, Step, Tally};
 use memory::Memory;
 
 // The tally of a single step that succeeded, which a run's steps count like. A function and no From: both types are machine's.
+// It does not call machine's Tally::count: that one asks for room for one step more, and a public function asks nothing.
 #[tactic(auto, using(crate::proofs::Counting::steps_are_counted))]
 pub fn tally_of_step(step: Step) -> Tally
     ensures exact { result ≡ count.counted count.no_steps step }
