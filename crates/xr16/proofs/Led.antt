@@ -1,5 +1,5 @@
 -- What is left of a list of actions leads where the whole list leads.
-use Rattle.std.proofs.Common.{◌≡◌, ℕ, suc, ◌+◌, ◌/◌, ◌<◌, map, Bool, List, [], ◌∷◌, length, drop, sym, refl, ap, ◌∙◌, arith}
+use Rattle.std.proofs.Common.{◌≡◌, ℕ, suc, ◌+◌, ◌/◌, ◌<◌, map, Bool, List, [], ◌∷◌, length, drop, Option, None, sym, refl, ap, ◌∙◌, arith}
 use Rattle.std.specs.Simd.{first_chunks}
 use Rattle.memory.specs.Meaning.{Meaning}
 use Rattle.machine.specs.declared.answers.Tally.{Tally}
@@ -9,7 +9,7 @@ use Rattle.histories.specs.Histories.{acted, played, Acts}
 use Rattle.xr16.specs.declared.answers.Fault.{Fault}
 use Rattle.xr16.specs.declared.answers.Totals.{Totals}
 use Rattle.xr16.specs.Actions.{action_in, action_of, actions_of}
-use Rattle.xr16.specs.Faults.{fault_in, last_fault, no_fault}
+use Rattle.xr16.specs.Faults.{fault_in, last_fault}
 use Rattle.xr16.specs.Playing.{added, count, nothing, totals_of}
 
 -- the totals, the state and the bytes that a list leads to
@@ -50,7 +50,7 @@ led_more o s b t a actions =
     ap (with_totals (led o s b t (a ∷ actions))) (same_totals _ _ (omega arith) (omega arith) (omega arith) (omega arith) refl)
 
 -- one turn of the list
-pub turned : (o : ℕ → Bool) (chunks : List (List ℕ)) (i : ℕ) (s : State) (m : Meaning) (t : Totals) (tally : Tally) (fault : Fault) (s' : State) (m' : Meaning) (t' : Totals)
+pub turned : (o : ℕ → Bool) (chunks : List (List ℕ)) (i : ℕ) (s : State) (m : Meaning) (t : Totals) (tally : Tally) (fault : Option Fault) (s' : State) (m' : Meaning) (t' : Totals)
     → (bytes : List ℕ) → drop i chunks ≡ bytes ∷ drop (i + 1) chunks → m.mark ≡ o
     → Acts (action_in bytes) s m tally s' m' → fault ≡ fault_in m.mark s m.byte (action_in bytes) → t' ≡ added t tally fault
     → led o s m.byte t (left chunks i) ≡ led o s' m'.byte t' (left chunks (i + 1))
@@ -72,7 +72,7 @@ pub record Small (t : Totals) : Type 0 where
   pub takings : t.takings < 18446744073709551616
 
 -- every sum is
-pub small_sum : (t : Totals) (y : Tally) (fault : Fault) (r : Totals) → r ≡ added t y fault → Small r
+pub small_sum : (t : Totals) (y : Tally) (fault : Option Fault) (r : Totals) → r ≡ added t y fault → Small r
 small_sum t y fault r e =
     let own : r.own ≡ count (t.own + y.own) = ap (λ (x : Totals). x.own) e in
     let service : r.service ≡ count (t.service + y.service) = ap (λ (x : Totals). x.service) e in
@@ -86,5 +86,5 @@ led_none o s b t small =
 
 -- the whole list
 pub led_all : (o : ℕ → Bool) (s : State) (b : ℕ → ℕ) (actions : List Action)
-    → (led o s b nothing actions).totals ≡ totals_of (played o s b actions).tally (last_fault o s b no_fault actions)
+    → (led o s b nothing actions).totals ≡ totals_of (played o s b actions).tally (last_fault o s b None actions)
 led_all o s b actions = same_totals _ _ (omega arith) (omega arith) (omega arith) (omega arith) refl

@@ -1,5 +1,5 @@
 // One action, with what it counts and why it was refused.
-ghost use Rattle.std.specs.Prelude.{◌≡◌, Err};
+ghost use Rattle.std.specs.Prelude.{◌≡◌};
 ghost use Rattle.histories.specs.Histories.{Acts};
 ghost use Rattle.histories.specs.declared.actions.Action.TheVariants as action;
 ghost use Rattle.xr16.specs.Faults as spec;
@@ -13,10 +13,7 @@ use memory::Memory;
 fn side_number(side: Side) -> u8
     ensures { result ≡ spec.side_number side }
 {
-    match side {
-        Side::Own => 0,
-        Side::Service => 1,
-    }
+    side as u8
 }
 
 impl From<StepRefusal> for Fault {
@@ -33,7 +30,7 @@ impl From<StepRefusal> for Fault {
 
 // Why a request was refused: it has no side and no address.
 impl From<Refusal> for Fault {
-    ghost from_gives = { λ refusal f. f ≡ spec.request_fault (Err refusal) };
+    ghost from_gives = { λ refusal f. f ≡ spec.request_fault refusal };
 
     fn from(refusal: Refusal) -> Fault {
         Fault {
@@ -54,7 +51,7 @@ fn spend<M: Memory>(core: &mut Core, memory: &mut M, budget: u16) -> Deed
     let run = core.run(memory, budget);
     Deed {
         tally: run.tally,
-        fault: run.end.err().map(Fault::from).unwrap_or_default(),
+        fault: run.end.err().map(Fault::from),
     }
 }
 
@@ -69,7 +66,7 @@ pub(crate) fn act<M: Memory>(action: Action, core: &mut Core, memory: &mut M) ->
     match action {
         Action::Request => Deed {
             tally: Tally::default(),
-            fault: core.request().err().map(Fault::from).unwrap_or_default(),
+            fault: core.request().err().map(Fault::from),
         },
         Action::Step => spend(core, memory, 1),
         Action::Run(budget) => spend(core, memory, budget),

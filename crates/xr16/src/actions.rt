@@ -4,7 +4,7 @@ ghost use Rattle.xr16.specs.Actions as spec;
 
 use histories::Action;
 
-// The action of a kind's number and a budget.
+// The action of a kind's number and a budget. A function and no From: Action is histories' type, and bytes are the C interface's.
 pub(crate) fn action_of(bytes: [u8; 3]) -> Action
     ensures { result ≡ spec.action_in bytes }
 {

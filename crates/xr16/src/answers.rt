@@ -43,15 +43,15 @@ pub struct Playing {
 #[derive(Clone, Copy)]
 pub(crate) struct Deed {
     pub tally: Tally,
-    pub fault: Fault,
+    pub fault: Option<Fault>,
 }
 
-// What a list of actions came to.
+// What a list of actions came to. Not rehearsal's totals: these counts are the C answer's, 64 bits that wrap.
 #[derive(Clone, Copy, Default)]
 pub(crate) struct Totals {
     pub own: u64,
     pub service: u64,
     pub takings: u64,
     pub wait: u16,
-    pub last: Fault,
+    pub last: Option<Fault>,
 }

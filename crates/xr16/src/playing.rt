@@ -54,9 +54,9 @@ fn load_and_play<M: Memory>(memory: &mut M, image: &[u8], layout: Layout, action
     match core.load(memory, image, layout) {
         Ok(()) => {
             let totals = play(&mut core, memory, actions);
-            report(&core, 0, totals)
+            report(&core, Ok(()), totals)
         }
-        Err(refusal) => report(&core, refusal.number(), Totals::default()),
+        Err(refusal) => report(&core, Err(refusal), Totals::default()),
     }
 }
 

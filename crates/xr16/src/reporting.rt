@@ -3,9 +3,10 @@ ghost use Rattle.std.specs.Prelude.{◌≡◌};
 ghost use Rattle.xr16.specs.Playing as spec;
 
 use crate::answers::{Playing, Totals};
+use isa::Refusal;
 use machine::Core;
 
-pub(crate) fn report(core: &Core, loading: u8, totals: Totals) -> Playing
+pub(crate) fn report(core: &Core, loading: Result<(), Refusal>, totals: Totals) -> Playing
     ensures { result ≡ spec.report loading core.now.state totals }
 {
     Playing {
@@ -15,8 +16,8 @@ pub(crate) fn report(core: &Core, loading: u8, totals: Totals) -> Playing
         registers: core.registers(),
         counter: core.counter(),
         wait: totals.wait,
-        last: totals.last,
-        loading,
+        last: totals.last.unwrap_or_default(),
+        loading: loading.err().map_or(0, Refusal::number),
         owing: core.owing(),
     }
 }
