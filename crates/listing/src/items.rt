@@ -2,8 +2,9 @@
 use crate::records::Record;
 use isa::{Condition, ImmediateForm, ImmediateFunction, Instruction};
 
-#[derive(Clone, Copy, PartialEq, Eq)]
+#[derive(Clone, Copy, Default, PartialEq, Eq)]
 pub enum Section {
+    #[default]
     Text,
     Data,
 }

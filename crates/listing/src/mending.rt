@@ -45,7 +45,7 @@ impl Slot {
         }
     }
 
-    // Whether the word is in hazard after a word with that result.
+    // Whether the word is in hazard after a word with that result. The core's own test stands in machine, which knows no slots.
     fn clashes(self, before: u8) -> bool
         ensures { result ≡ clash before self }
     {

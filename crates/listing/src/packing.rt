@@ -6,7 +6,7 @@ use crate::records::{Operation, Record};
 use isa::Refusal;
 
 impl Operation {
-    // With `numbered` no From and TryFrom: a number that names no operation has no error to tell.
+    // The way back, `numbered`, is no TryFrom, as the definition `operation_of` is an Option: later passes skip what is not listed.
     fn number(self) -> u32
         ensures value { result ≡ operation_number self }
         ensures bound { result < 128 }

@@ -7,6 +7,7 @@ use crate::records::{Operation, Record};
 use isa::{Condition, ImmediateFunction, RegisterFunction};
 
 impl Operation {
+    // No TryFrom, as the definition `operation_of` is an Option: later passes skip what is not listed.
     #[tactic(auto, using(crate::proofs::Unlisted::no_pseudo, crate::proofs::Unlisted::no_directive))]
     fn numbered(number: u8) -> Option<Operation>
         ensures { result ≡ operation_of number }

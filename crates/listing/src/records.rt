@@ -41,7 +41,7 @@ pub struct Record {
     pub rd: u8,
     pub ra: u8,
     pub rb: u8,
-    // Two fields and not an Option, so that each value of a byte can be given to `write`, which refuses it.
+    // No Option: a label record has a label and no reference, a label without one must be readable to be refused, and a narrower type would ask more of `write`.
     pub reference: u8,
     pub label: u16,
     pub constant: i32,

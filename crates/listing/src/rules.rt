@@ -9,6 +9,7 @@ use crate::records::{Constants, Operation, Record, Uses};
 use isa::{ImmediateFunction, Refusal};
 
 // Whether rd, ra and rb are used, which constants are taken, and whether a reference is.
+// Five arguments in the order of the fields of `Uses`, so that most operations stand on one line.
 fn row(rd: bool, ra: bool, rb: bool, constant: Option<Constants>, reference: bool) -> Uses
     ensures { result ≡ spec.row rd ra rb constant reference }
 {
@@ -52,21 +53,14 @@ impl Operation {
             Operation::Add | Operation::Sub => row(true, true, true, None, false),
             Operation::Register(_) => row(true, false, true, None, false),
             Operation::Immediate(function) => function_uses(function),
-            Operation::Addi | Operation::Lea => row(true, true, false, Some(Constants::Any), true),
-            Operation::Lw | Operation::Lb | Operation::Lbs => row(
-                true,
-                true,
-                false,
-                Some(Constants::Any),
-                true,
-            ),
-            Operation::Sw | Operation::Sb | Operation::Jal => row(
-                true,
-                true,
-                false,
-                Some(Constants::Any),
-                true,
-            ),
+            Operation::Addi
+            | Operation::Lea
+            | Operation::Lw
+            | Operation::Lb
+            | Operation::Lbs
+            | Operation::Sw
+            | Operation::Sb
+            | Operation::Jal => row(true, true, false, Some(Constants::Any), true),
             Operation::Subi => row(true, true, false, Some(Constants::Any), false),
             Operation::Call | Operation::Branch(_) => row(
                 false,
@@ -81,10 +75,8 @@ impl Operation {
             Operation::Mov | Operation::Sxt | Operation::Zext => row(
                 true, true, false, None, false,
             ),
-            Operation::Nop | Operation::Ret | Operation::Reti => row(
-                false, false, false, None, false,
-            ),
-            Operation::Text | Operation::Data => row(false, false, false, None, false),
+            Operation::Nop | Operation::Ret | Operation::Reti | Operation::Text | Operation::Data =>
+                row(false, false, false, None, false),
             Operation::Byte => row(false, false, false, Some(Constants::Byte), false),
             Operation::Word => row(false, false, false, Some(Constants::Any), true),
             Operation::Align => row(false, false, false, Some(Constants::Alignment), false),

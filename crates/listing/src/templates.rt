@@ -58,7 +58,7 @@ impl Template {
     {
         let constant = i64::from(self.record.constant);
         if self.body.negated {
-            0 - constant
+            -constant
         } else {
             constant
         }
@@ -113,15 +113,12 @@ impl Template {
     fn repeat_slot(self, function: ImmediateFunction, rd: u8, k: usize) -> Option<Slot>
         ensures { result ≡ slice_get (first_slots (Repeat function rd) self.record (number self.body self.record)) k }
     {
-        if k < self.number_bits() as usize {
-            Some(Slot::Word(Instruction::Immediate {
-                function,
-                rd,
-                imm: 1,
-            }))
-        } else {
-            None
-        }
+        let i = Instruction::Immediate {
+            function,
+            rd,
+            imm: 1,
+        };
+        (k < self.number_bits() as usize).then_some(Slot::Word(i))
     }
 
     fn first_len(self) -> usize
