@@ -3,7 +3,7 @@ use listing::Section;
 
 // The section that the next record stands in, the lengths of both sections, and the register that the
 // last text word writes, r0 for none.
-#[derive(Clone, Copy, PartialEq, Eq)]
+#[derive(Clone, Copy, Default, PartialEq, Eq)]
 pub struct Place {
     pub section: Section,
     pub text: usize,
@@ -19,6 +19,7 @@ pub struct Mark {
 }
 
 // What each of all labels that there can be names: an array, since the calls take no heap.
+// Only definitions and proofs use it: the code keeps a walk and labels.
 #[derive(Clone, Copy, PartialEq, Eq)]
 pub struct Layout {
     pub place: Place,
