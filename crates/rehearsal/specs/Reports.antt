@@ -1,5 +1,6 @@
 -- What a rehearsal reports, and what it leaves.
 use Rattle.std.specs.Prelude.{◌≡◌, ℕ, ◌+◌, ◌/◌, Bool, true, cond, List, ◌++◌, length, drop, is_ok, Ok, Err, Result, None}
+use Rattle.isa.specs.declared.refusals.Refusal.{Refusal}
 use Rattle.memory.specs.Meaning.{Meaning}
 use Rattle.machine.specs.declared.states.ServiceRange.{ServiceRange}
 use Rattle.memory.specs.Words.{stored_image}
@@ -23,6 +24,12 @@ use Rattle.rehearsal.specs.declared.reports.Totals.{Totals}
 use Rattle.rehearsal.specs.declared.reports.Program.{Program}
 use Rattle.rehearsal.specs.declared.reports.Program.TheVariants as program
 use Rattle.rehearsal.specs.Stages.{Stage, nothing, rehearsed}
+
+-- the refusal behind an obstacle: the assembly's, the first load's or the twin's
+abbrev pub refusal_behind : Obstacle → Refusal
+refusal_behind (obstacle.Assembly refused) = refused.refusal
+refusal_behind (obstacle.Loading refusal) = refusal
+refusal_behind (obstacle.TwinLoading refusal) = refusal
 
 -- a core's state beside the bytes of its memory
 abbrev pub standing : State → Meaning → Standing

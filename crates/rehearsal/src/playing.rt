@@ -53,7 +53,7 @@ impl Totals {
     }
 }
 
-// What the list came to.
+// What the list came to. The report is its public form, with what is compared afterwards.
 #[derive(Clone, Copy)]
 pub(crate) struct Played {
     pub(crate) totals: Totals,

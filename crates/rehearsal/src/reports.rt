@@ -1,4 +1,7 @@
 // What a rehearsal reports.
+ghost use Rattle.std.specs.Prelude.{◌≡◌};
+ghost use Rattle.rehearsal.specs.Reports as spec;
+
 use isa::Refusal;
 use machine::{Step, StepRefusal};
 use text::Refused;
@@ -38,4 +41,16 @@ pub enum Obstacle {
     Assembly(Refused),
     Loading(Refusal),
     TwinLoading(Refusal),
+}
+
+// The refusal behind an obstacle, whichever call refused.
+impl From<Obstacle> for Refusal {
+    ghost from_gives = { λ obstacle refusal. refusal ≡ spec.refusal_behind obstacle };
+
+    fn from(obstacle: Obstacle) -> Refusal {
+        match obstacle {
+            Obstacle::Assembly(refused) => refused.refusal,
+            Obstacle::Loading(refusal) | Obstacle::TwinLoading(refusal) => refusal,
+        }
+    }
 }
