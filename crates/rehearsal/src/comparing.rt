@@ -5,7 +5,7 @@ ghost use Rattle.histories.specs.Laws.{SameProgram};
 ghost use Rattle.rehearsal.specs.Boards.{SameByte};
 ghost use Rattle.rehearsal.specs.Reports as spec;
 
-use crate::boards::Board;
+use crate::pairs::Pair;
 use crate::reports::Program;
 use machine::{Core, Step, StepRefusal};
 use memory::Memory;
@@ -23,43 +23,45 @@ fn same_registers(core: &Core, twin: &Core) -> bool
         .all(|(number, (value, other))| number == 14 || value == other)
 }
 
-// The byte at an address is the same, unless the address is in the service range.
-fn same_byte<M: Memory, N: Memory>(first: &Board<'_, M>, twin: &Board<'_, N>, address: u16) -> bool
-    ensures { Decides result (SameByte first.now.core.state.layout
-        (M.Memory.means first.now.memory.now).byte (N.Memory.means twin.now.memory.now).byte address) }
-{
-    first.core.layout().service.contains(address)
-        || first.memory.read(address) == twin.memory.read(address)
-}
+impl<M: Memory, N: Memory> Pair<'_, '_, M, N> {
+    // The byte at an address is the same, unless the address is in the service range.
+    fn same_byte(&self, address: u16) -> bool
+        ensures { Decides result (SameByte self.now.first.core.state.layout
+            (M.Memory.means self.now.first.memory.now).byte (N.Memory.means self.now.twin.memory.now).byte address) }
+    {
+        self.first.core.layout().service.contains(address)
+            || self.first.memory.read(address) == self.twin.memory.read(address)
+    }
 
-// All memory outside the service range is the same.
-fn same_memory<M: Memory, N: Memory>(first: &Board<'_, M>, twin: &Board<'_, N>) -> bool
-    ensures { Decides result ((a : ℕ) → a < 65536 → inside first.now.core.state.layout a ≡ false
-        → (M.Memory.means first.now.memory.now).byte a ≡ (N.Memory.means twin.now.memory.now).byte a) }
-{
-    (0..=u16::MAX).all(|address| same_byte(first, twin, address))
-}
+    // All memory outside the service range is the same.
+    fn same_memory(&self) -> bool
+        ensures { Decides result ((a : ℕ) → a < 65536 → inside self.now.first.core.state.layout a ≡ false
+            → (M.Memory.means self.now.first.memory.now).byte a ≡ (N.Memory.means self.now.twin.memory.now).byte a) }
+    {
+        (0..=u16::MAX).all(|address| self.same_byte(address))
+    }
 
-fn same_program<M: Memory, N: Memory>(first: &Board<'_, M>, twin: &Board<'_, N>) -> bool
-    ensures { Decides result (SameProgram first.now.core.state (M.Memory.means first.now.memory.now).byte
-        twin.now.core.state (N.Memory.means twin.now.memory.now).byte) }
-{
-    first.core.counter() == twin.core.counter()
-        && same_registers(&first.core, &twin.core)
-        && same_memory(first, twin)
-}
+    fn same_program(&self) -> bool
+        ensures { Decides result (SameProgram self.now.first.core.state (M.Memory.means self.now.first.memory.now).byte
+            self.now.twin.core.state (N.Memory.means self.now.twin.memory.now).byte) }
+    {
+        self.first.core.counter() == self.twin.core.counter()
+            && same_registers(&self.first.core, &self.twin.core)
+            && self.same_memory()
+    }
 
-// How the two program states compare.
-pub(crate) fn compare<M: Memory, N: Memory>(first: &Board<'_, M>, twin: &Board<'_, N>) -> Program
-    ensures { spec.Compared (spec.standing first.now.core.state (M.Memory.means first.now.memory.now))
-        (spec.standing twin.now.core.state (N.Memory.means twin.now.memory.now)) result }
-{
-    if first.core.is_serving() {
-        Program::Serving
-    } else if same_program(first, twin) {
-        Program::Same
-    } else {
-        Program::Different
+    // How the two program states compare.
+    pub(crate) fn compare(&self) -> Program
+        ensures { spec.Compared (spec.standing self.now.first.core.state (M.Memory.means self.now.first.memory.now))
+            (spec.standing self.now.twin.core.state (N.Memory.means self.now.twin.memory.now)) result }
+    {
+        if self.first.core.is_serving() {
+            Program::Serving
+        } else if self.same_program() {
+            Program::Same
+        } else {
+            Program::Different
+        }
     }
 }
 

@@ -3,6 +3,7 @@
 
 mod boards;
 mod comparing;
+mod pairs;
 mod playing;
 mod rehearsing;
 mod reports;

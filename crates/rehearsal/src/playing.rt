@@ -1,6 +1,6 @@
 // The list on the first core, and the own steps alone on the twin.
 ghost use Rattle.std.specs.Prelude.{◌≡◌, true};
-ghost use Rattle.rehearsal.specs.Boards.{Holds};
+ghost use Rattle.rehearsal.specs.Boards.{HoldBoth, Holds};
 ghost use Rattle.machine.specs.Steps.{memory_of};
 ghost use Rattle.machine.specs.Laws.{repeated};
 ghost use Rattle.rehearsal.specs.Twins as twins;
@@ -8,6 +8,7 @@ ghost use Rattle.rehearsal.specs.Reports as report;
 ghost use Rattle.rehearsal.specs.Stages as spec;
 
 use crate::boards::Board;
+use crate::pairs::Pair;
 use crate::reports::Totals;
 use histories::Action;
 use machine::{Side, Step, StepRefusal, Tally};
@@ -60,29 +61,26 @@ pub(crate) struct Played {
     pub(crate) kept: bool,
 }
 
-// Plays the list on the first core, and after each action the own steps that succeeded on the twin.
-pub(crate) fn play<M: Memory, N: Memory>(
-    first: &mut Board<'_, M>,
-    twin: &mut Board<'_, N>,
-    actions: &[Action],
-) -> Played
-    ensures stage { spec.rehearsed (M.Memory.means first.old.memory.now).mark (N.Memory.means twin.old.memory.now).mark
-        (report.stage_of first.old.core.state (M.Memory.means first.old.memory.now) twin.old.core.state
-        (N.Memory.means twin.old.memory.now) spec.nothing true)
-        actions.now
-        ≡ report.stage_of first.new.core.state (M.Memory.means first.new.memory.now) twin.new.core.state
-        (N.Memory.means twin.new.memory.now) result.totals result.kept }
-    ensures marks { (M.Memory.means first.new.memory.now).mark ≡ (M.Memory.means first.old.memory.now).mark }
-    ensures twin_marks { (N.Memory.means twin.new.memory.now).mark ≡ (N.Memory.means twin.old.memory.now).mark }
-    ensures holds { Holds M.Memory.loan first.old.memory first.new.memory }
-    ensures twin_holds { Holds N.Memory.loan twin.old.memory twin.new.memory }
-{
-    let mut totals = Totals::default();
-    let mut kept = true;
-    for action in actions {
-        let tally = first.act(*action);
-        kept &= twin.follow(tally.own);
-        totals = totals.added(tally);
+impl<M: Memory, N: Memory> Pair<'_, '_, M, N> {
+    // Plays the list on the first core, and after each action the own steps that succeeded on the twin.
+    pub(crate) fn play(&mut self, actions: &[Action]) -> Played
+        ensures stage { spec.rehearsed (M.Memory.means self.old.first.memory.now).mark (N.Memory.means self.old.twin.memory.now).mark
+            (report.stage_of self.old.first.core.state (M.Memory.means self.old.first.memory.now) self.old.twin.core.state
+            (N.Memory.means self.old.twin.memory.now) spec.nothing true)
+            actions.now
+            ≡ report.stage_of self.new.first.core.state (M.Memory.means self.new.first.memory.now) self.new.twin.core.state
+            (N.Memory.means self.new.twin.memory.now) result.totals result.kept }
+        ensures marks { (M.Memory.means self.new.first.memory.now).mark ≡ (M.Memory.means self.old.first.memory.now).mark }
+        ensures twin_marks { (N.Memory.means self.new.twin.memory.now).mark ≡ (N.Memory.means self.old.twin.memory.now).mark }
+        ensures holds { HoldBoth M.Memory.loan N.Memory.loan self.old self.new }
+    {
+        let mut totals = Totals::default();
+        let mut kept = true;
+        for action in actions {
+            let tally = self.first.act(*action);
+            kept &= self.twin.follow(tally.own);
+            totals = totals.added(tally);
+        }
+        Played { totals, kept }
     }
-    Played { totals, kept }
 }

@@ -15,20 +15,20 @@ returns g c =
     let n = g.N.Memory.means c.args.twin_memory.now in
     let actions = c.args.actions.now in
     let ready = c.in_ok-answers.ensures in
-    let first = c.prepare.new.first in
-    let twin = c.prepare.new.twin in
+    let first = c.prepare.new.self.first in
+    let twin = c.prepare.new.self.twin in
     let out = prepared_at l _ range _ m _ n c.in_ok-answers.answers first.core.state (g.M.Memory.means first.memory.now) twin.core.state (g.N.Memory.means twin.memory.now)
     (ap g.M.Memory.means c.new-first.ensures.memory) (ap g.N.Memory.means c.new-twin.ensures.memory) ready.outcome in
     let played = c.play-played.ensures in
-    let first' = c.play-played.new.first in
-    let twin' = c.play-played.new.twin in
+    let first' = c.play-played.new.self.first in
+    let twin' = c.play-played.new.self.twin in
     let m₂ = g.M.Memory.means first'.memory.now in
     let n₂ = g.N.Memory.means twin'.memory.now in
     let totals = c.play-played.result.totals in
     let kept = c.play-played.result.kept in
     let done = c.finish.ensures in
-    let m₃ = g.M.Memory.means c.finish.new.first.memory.now in
-    let n₃ = g.N.Memory.means c.finish.new.twin.memory.now in
+    let m₃ = g.M.Memory.means c.finish.new.self.first.memory.now in
+    let n₃ = g.N.Memory.means c.finish.new.self.twin.memory.now in
     let over = staged_list l range m n actions first.core.state (g.M.Memory.means first.memory.now) twin.core.state (g.N.Memory.means twin.memory.now)
     (stage_of first'.core.state m₂ twin'.core.state n₂ totals kept) out.4 out.5 out.6 out.7 played.stage in
     let reported : Reported l range m n actions c.finish.result m₃ n₃ =

@@ -2,14 +2,14 @@ use Rattle.std.proofs.Common.{true, false, Decides, inl, inr, refl, sym, ◌∙�
 use Rattle.std.proofs.lemmas.Bool.{cases_lt, false≢true, true_from_ne_false}
 use Rattle.memory.proofs.Addresses.{every_address, some_address}
 use Rattle.rehearsal.specs.Boards.{SameByte}
-use Rattle.rehearsal.proofs.comparing.same_memory.Goals as goal
+use Rattle.rehearsal.proofs.pairs.Pair.same_memory.Goals as goal
 
 pub returns : goal.returns
 returns g c =
-    let same = SameByte c.args.first.now.core.state.layout
-    (g.M.Memory.means c.args.first.now.memory.now).byte (g.N.Memory.means c.args.twin.now.memory.now).byte in
-    let m = g.M.Memory.lawful c.args.first.now.memory.now in
-    let n = g.N.Memory.lawful c.args.twin.now.memory.now in
+    let same = SameByte c.args.self.now.first.core.state.layout
+    (g.M.Memory.means c.args.self.now.first.memory.now).byte (g.N.Memory.means c.args.self.now.twin.memory.now).byte in
+    let m = g.M.Memory.lawful c.args.self.now.first.memory.now in
+    let n = g.N.Memory.lawful c.args.self.now.twin.memory.now in
     let p = c.all.ensures.runs.0 in (
       λ e.
           let h = rw e at c.all.ensures.runs.2 in
