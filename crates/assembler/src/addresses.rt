@@ -32,7 +32,7 @@ impl<'a> Addresses<'a> {
     pub fn value_of(self, record: Record) -> Option<Value>
         ensures { number_in result ≡ value self.entry.base self.entry.labels.now.marks «record» }
     {
-        let constant = record.constant as i64;
+        let constant = i64::from(record.constant);
         if record.reference == 0 {
             return Some(Value { number: constant });
         }

@@ -6,6 +6,7 @@ use text::Mark;
 
 #[derive(Drop)]
 pub(crate) struct Labels {
+    // An array of all labels that there can be, since the calls take no heap.
     pub marks: [Option<Mark>; 1024],
 }
 
@@ -23,14 +24,16 @@ impl Labels {
     pub fn get(&self, label: u16) -> Option<Mark>
         ensures { result ≡ slice_index_or self.now.marks label None }
     {
-        self.marks.get(label as usize).copied().flatten()
+        self.marks.get(usize::from(label)).copied().flatten()
     }
 
     pub fn define(&mut self, label: u16, mark: Mark)
         ensures { self.new.marks ≡ slice_set self.old.marks label (Some mark) }
     {
-        if (label as usize) < self.marks.len() {
-            self.marks[label as usize] = Some(mark);
+        // Tested and then indexed: `get_mut` was tried, and the check found the proof of neither case.
+        let index = usize::from(label);
+        if index < self.marks.len() {
+            self.marks[index] = Some(mark);
         }
     }
 }

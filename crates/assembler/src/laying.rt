@@ -1,5 +1,5 @@
 // The first pass: where each record's bytes go, and what each label names.
-ghost use Rattle.std.specs.Prelude.{◌≡◌, ◌≤◌, None, IfOk};
+ghost use Rattle.std.specs.Prelude.{◌≡◌, None, IfOk};
 ghost use Rattle.std.specs.Result.{result_err};
 ghost use Rattle.text.specs.Layout.{start, is_label, misplaced, twice, marked_by, record_refusal};
 ghost use Rattle.assembler.specs.Listings.{laid_out, unlaid};

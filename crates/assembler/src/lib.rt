@@ -16,3 +16,4 @@ mod walks;
 mod writing;
 
 pub use assembling::assemble;
+pub use planning::LARGEST_IMAGE;

@@ -11,6 +11,7 @@ use listing::{Item, Mend, Record, Template};
 
 // How a record's first word is mended, how many bytes the record adds to its section, the register that
 // its last word writes, and whether it is adc or sbc in hazard.
+// Beside Outline: an outline counts words, a measure bytes.
 #[derive(Clone, Copy)]
 pub(crate) struct Measure {
     pub mend: Mend,
@@ -35,7 +36,7 @@ fn gap(walk: Walk, r: Record) -> usize
     ensures value { result ≡ padding (here walk.place) (bits16 r.constant) }
     ensures bound { result ≤ 65536 }
 {
-    pad(walk.end(), low_bits(r.constant as i64) as usize)
+    pad(walk.end(), usize::from(low_bits(i64::from(r.constant))))
 }
 
 impl Measure {

@@ -14,6 +14,9 @@ use crate::walks::Walk;
 use isa::Refusal;
 use text::Refused;
 
+// The largest image, in bytes: what is left of the address space below the I/O addresses, 0xFF00 and above.
+pub const LARGEST_IMAGE: usize = 65280;
+
 // Where the text ends before it is padded, where it ends then, and where the data end.
 #[derive(Clone, Copy)]
 pub(crate) struct Plan {
@@ -34,7 +37,7 @@ impl Plan {
         let Walk { place, .. } = lay_out(listing, labels)?;
         let text = place.text + pad(place.text, 16);
         let image = text + place.data;
-        if image > 65280 {
+        if image > LARGEST_IMAGE {
             return Err(listing.refused(Refusal::Big));
         }
         check_values(listing, Addresses { base: text, labels })?;

@@ -26,7 +26,7 @@ impl Value {
     {
         if negated {
             Value {
-                number: 0 - self.number,
+                number: -self.number,
             }
         } else {
             self
@@ -37,7 +37,7 @@ impl Value {
     pub fn distance_from(self, at: u32) -> i64
         ensures { result ≡ distance at self.number }
     {
-        self.number - (at as i64 + 4)
+        self.number - (i64::from(at) + 4)
     }
 }
 

@@ -10,6 +10,7 @@ use text::{Mark, Place, Refused};
 // The index of the next record, and the place at which it stands. A record adds at most 262,144 bytes.
 #[derive(Clone, Copy)]
 pub(crate) struct Walk {
+    // Counted here and not by enumerate, since the bounds of text and data are stated by it.
     pub index: usize,
     pub place: Place,
     ghost few: { index ≤ 4096 },
@@ -25,12 +26,7 @@ impl Walk {
     {
         Walk {
             index: 0,
-            place: Place {
-                section: Section::Text,
-                text: 0,
-                data: 0,
-                result: 0,
-            },
+            place: Place::default(),
         }
     }
 
