@@ -8,7 +8,7 @@ use Rattle.isa.specs.Registers.{late, names}
 use Rattle.isa.specs.Words.{read_word}
 use Rattle.operations.specs.declared.values.Forerunner.{Forerunner}
 use Rattle.operations.specs.declared.values.Effect.{Effect}
-use Rattle.operations.specs.Forerunners.{lacks}
+use Rattle.operations.specs.Forerunners.{carry_of, first_of, second_of, bit_of, lacks}
 use Rattle.operations.specs.Operations.{base, effect_of, leaves, miscounts}
 use Rattle.machine.specs.declared.states.Side.TheVariants as side
 use Rattle.machine.specs.declared.states.Layout.{Layout}
@@ -17,7 +17,7 @@ use Rattle.machine.specs.declared.states.Plan.{Plan}
 use Rattle.machine.specs.Layouts.{is_odd, is_io, trespasses}
 use Rattle.machine.specs.Checks.{hazard, owed, owing, operands, first_failed, unless_refused, plan_of, planned}
 use Rattle.histories.specs.Texts.{extended_reading, reads_extended}
-use Rattle.histories.proofs.Words.{behind, Plain, facts}
+use Rattle.histories.proofs.Words.{fore_alike, with_bit, Plain, facts}
 use Rattle.histories.proofs.Sides.{Together, read_rest}
 
 -- the plan of an own word, from what its checks ask
@@ -40,12 +40,15 @@ unequal k h e = grind (arith, nat_tests)
 
 module _ (s t : State) (el : s.layout ≡ t.layout) (es : s.service ≡ None) (et : t.service ≡ None)
     (em : s.made ≡ t.made) (st : Together s t) where
-  -- all but what the word before left, where the word does not name r14
-  same_operands : (i : Instruction) → names i 14 ≡ false → operands s i ≡ behind (operands t i) s.forerunner
+  -- all but the shifted bit, where the word does not name r14
+  same_operands : (i : Instruction) → names i 14 ≡ false → operands s i ≡ with_bit (operands t i) (bit_of s.forerunner)
   same_operands i h =
       let n = (facts i).unnamed h in
       let x = read_rest s.registers t.registers (base i) st.registers (unequal (base i) n.1) in
       let y = read_rest s.registers t.registers (late i) st.registers (unequal (late i) n.2) in
+      let c = fore_alike carry_of (λ _. refl) s.forerunner t.forerunner st.fore in
+      let u = fore_alike first_of (λ _. refl) s.forerunner t.forerunner st.fore in
+      let v = fore_alike second_of (λ _. refl) s.forerunner t.forerunner st.fore in
       let p = st.prefix in
       let q = st.counter in
       cc
@@ -59,7 +62,7 @@ module _ (s t : State) (el : s.layout ≡ t.layout) (es : s.service ≡ None) (e
   same_by i plain q true h = refl
   same_by i plain q false h =
       let g = same_operands i h in
-      let x = (facts i).blind plain (operands t i) s.forerunner t.forerunner st.fore in
+      let x = (facts i).blind plain (operands t i) (bit_of s.forerunner) (bit_of t.forerunner) in
       let lack = ap (lacks s.forerunner i) st.prefix ∙ (facts i).lacking plain t.prefix s.forerunner t.forerunner st.fore in
       let count = ap (miscounts i) g ∙ x.2 in
       let does = ap (effect_of i) g ∙ x.0 in

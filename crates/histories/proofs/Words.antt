@@ -14,7 +14,7 @@ use Rattle.operations.specs.declared.values.Operands.{Operands}
 use Rattle.operations.specs.declared.values.Effect.{Effect}
 use Rattle.operations.specs.declared.values.Effect.TheVariants as effect
 use Rattle.operations.specs.Arithmetic.{following}
-use Rattle.operations.specs.Forerunners.{carry_of, first_of, second_of, is_sum, is_shift, extends, conditional, lacks}
+use Rattle.operations.specs.Forerunners.{is_sum, is_shift, extends, conditional, lacks}
 use Rattle.operations.specs.Operations.{base, register_value, immediate_value, effect_of, register_leaves, immediate_leaves, leaves, miscounts}
 use Rattle.machine.specs.Steps.{left_behind}
 use Rattle.histories.specs.Texts.{extended_shift, jump}
@@ -53,12 +53,9 @@ sums_alike = fore_alike is_sum (λ _. refl)
 
 -- Facts
 
-carries_alike : (f g : Forerunner) → Fore f g → carry_of f ≡ carry_of g
-carries_alike = fore_alike carry_of (λ _. refl)
-
--- the operands after another word
-abbrev pub behind : Operands → Forerunner → Operands
-behind g f = record { left = g.left; right = g.right; immediate = g.immediate; counter = g.counter; forerunner = f }
+-- the operands with another shifted bit
+abbrev pub with_bit : Operands → Bool → Operands
+with_bit g x = record { left = g.left; right = g.right; immediate = g.immediate; counter = g.counter; carry = g.carry; a = g.a; b = g.b; bit = x }
 
 -- not srxi or slxi
 abbrev pub Plain : Instruction → Type 0
@@ -79,42 +76,42 @@ pub record Facts (i : Instruction) : Type 0 where
   -- a word that can be interrupted after leaves no sum
   pub unsummed : interlocked i ≡ false → (g : Operands) (f : Forerunner) → is_sum (left_behind (leaves i g) f) ≡ false
   -- only an extended shift asks for the shifted bit
-  pub blind : Plain i → (g : Operands) (x y : Forerunner) → Fore x y → (effect_of i (behind g x) ≡ effect_of i (behind g y))
-      × (leaves i (behind g x) ≡ leaves i (behind g y)) × (miscounts i (behind g x) ≡ miscounts i (behind g y))
+  pub blind : Plain i → (g : Operands) (x y : Bool) → (effect_of i (with_bit g x) ≡ effect_of i (with_bit g y))
+      × (leaves i (with_bit g x) ≡ leaves i (with_bit g y)) × (miscounts i (with_bit g x) ≡ miscounts i (with_bit g y))
   pub goes : (g : Operands) → Goes i g.counter (effect_of i g)
 
 -- the same of the functions of opcode 3
 pub record RegisterFacts (f : RegisterFunction) : Type 0 where
   pub unsummed : carries f ≡ false → (g : Operands) (h : Forerunner) → is_sum (left_behind (register_leaves f g) h) ≡ false
-  pub blind : (g : Operands) (x y : Forerunner) → Fore x y → (register_value f (behind g x) ≡ register_value f (behind g y))
-      × (register_leaves f (behind g x) ≡ register_leaves f (behind g y))
+  pub blind : (g : Operands) (x y : Bool) → (register_value f (with_bit g x) ≡ register_value f (with_bit g y))
+      × (register_leaves f (with_bit g x) ≡ register_leaves f (with_bit g y))
 
 register_facts : (f : RegisterFunction) → RegisterFacts f
-register_facts And = record { unsummed = λ _ _ _. refl; blind = λ _ _ _ _. (refl, refl) }
-register_facts Or = record { unsummed = λ _ _ _. refl; blind = λ _ _ _ _. (refl, refl) }
-register_facts Xor = record { unsummed = λ _ _ _. refl; blind = λ _ _ _ _. (refl, refl) }
-register_facts Andn = record { unsummed = λ _ _ _. refl; blind = λ _ _ _ _. (refl, refl) }
-register_facts Adc = record { unsummed = λ h _ _. cc; blind = λ _ x y k. let e = carries_alike x y k in (cc, cc) }
-register_facts Sbc = record { unsummed = λ h _ _. cc; blind = λ _ x y k. let e = carries_alike x y k in (cc, cc) }
+register_facts And = record { unsummed = λ _ _ _. refl; blind = λ _ _ _. (refl, refl) }
+register_facts Or = record { unsummed = λ _ _ _. refl; blind = λ _ _ _. (refl, refl) }
+register_facts Xor = record { unsummed = λ _ _ _. refl; blind = λ _ _ _. (refl, refl) }
+register_facts Andn = record { unsummed = λ _ _ _. refl; blind = λ _ _ _. (refl, refl) }
+register_facts Adc = record { unsummed = λ h _ _. cc; blind = λ _ _ _. (refl, refl) }
+register_facts Sbc = record { unsummed = λ h _ _. cc; blind = λ _ _ _. (refl, refl) }
 
 -- and of opcode 4
 pub record ImmediateFacts (f : ImmediateFunction) : Type 0 where
   pub unsummed : carries_immediate f ≡ false → (g : Operands) (h : Forerunner) → is_sum (left_behind (immediate_leaves f g) h) ≡ false
-  pub blind : extends f ≡ false → (g : Operands) (x y : Forerunner) → Fore x y → (immediate_value f (behind g x) ≡ immediate_value f (behind g y))
-      × (immediate_leaves f (behind g x) ≡ immediate_leaves f (behind g y))
+  pub blind : extends f ≡ false → (g : Operands) (x y : Bool) → (immediate_value f (with_bit g x) ≡ immediate_value f (with_bit g y))
+      × (immediate_leaves f (with_bit g x) ≡ immediate_leaves f (with_bit g y))
 
 immediate_facts : (f : ImmediateFunction) → ImmediateFacts f
-immediate_facts Andi = record { unsummed = λ _ _ _. refl; blind = λ _ _ _ _ _. (refl, refl) }
-immediate_facts Ori = record { unsummed = λ _ _ _. refl; blind = λ _ _ _ _ _. (refl, refl) }
-immediate_facts Xori = record { unsummed = λ _ _ _. refl; blind = λ _ _ _ _ _. (refl, refl) }
-immediate_facts Andni = record { unsummed = λ _ _ _. refl; blind = λ _ _ _ _ _. (refl, refl) }
-immediate_facts Adci = record { unsummed = λ h _ _. cc; blind = λ _ _ x y k. let e = carries_alike x y k in (cc, cc) }
-immediate_facts Sbci = record { unsummed = λ h _ _. cc; blind = λ _ _ x y k. let e = carries_alike x y k in (cc, cc) }
-immediate_facts Srli = record { unsummed = λ _ _ _. refl; blind = λ _ _ _ _ _. (refl, refl) }
-immediate_facts Srai = record { unsummed = λ _ _ _. refl; blind = λ _ _ _ _ _. (refl, refl) }
-immediate_facts Slli = record { unsummed = λ _ _ _. refl; blind = λ _ _ _ _ _. (refl, refl) }
-immediate_facts Srxi = record { unsummed = λ _ _ _. refl; blind = λ h _ _ _ _. cc }
-immediate_facts Slxi = record { unsummed = λ _ _ _. refl; blind = λ h _ _ _ _. cc }
+immediate_facts Andi = record { unsummed = λ _ _ _. refl; blind = λ _ _ _ _. (refl, refl) }
+immediate_facts Ori = record { unsummed = λ _ _ _. refl; blind = λ _ _ _ _. (refl, refl) }
+immediate_facts Xori = record { unsummed = λ _ _ _. refl; blind = λ _ _ _ _. (refl, refl) }
+immediate_facts Andni = record { unsummed = λ _ _ _. refl; blind = λ _ _ _ _. (refl, refl) }
+immediate_facts Adci = record { unsummed = λ h _ _. cc; blind = λ _ _ _ _. (refl, refl) }
+immediate_facts Sbci = record { unsummed = λ h _ _. cc; blind = λ _ _ _ _. (refl, refl) }
+immediate_facts Srli = record { unsummed = λ _ _ _. refl; blind = λ _ _ _ _. (refl, refl) }
+immediate_facts Srai = record { unsummed = λ _ _ _. refl; blind = λ _ _ _ _. (refl, refl) }
+immediate_facts Slli = record { unsummed = λ _ _ _. refl; blind = λ _ _ _ _. (refl, refl) }
+immediate_facts Srxi = record { unsummed = λ _ _ _. refl; blind = λ h _ _ _. cc }
+immediate_facts Slxi = record { unsummed = λ _ _ _. refl; blind = λ h _ _ _. cc }
 
 unnamed_three : (d a b : ℕ) → (eqb d 14 || (eqb a 14 || eqb b 14)) ≡ false → (eqb d 14 ≡ false) × (eqb a 14 ≡ false) × (eqb b 14 ≡ false)
 unnamed_three d a b h =
@@ -126,20 +123,20 @@ two : (d a : ℕ) → (eqb d 14 || eqb a 14) ≡ false → (eqb d 14 ≡ false) 
 two d a = or_parts (eqb d 14) (eqb a 14)
 
 pub facts : (i : Instruction) → Facts i
-facts (Add d a b) = record { unnamed = unnamed_three d a b; lacking = λ _ _ _ _ _. refl; unsummed = λ h _ _. cc; blind = λ _ _ _ _ _. (refl, refl, refl); goes = λ _. inr (inr refl) }
-facts (Sub d a b) = record { unnamed = unnamed_three d a b; lacking = λ _ _ _ _ _. refl; unsummed = λ h _ _. cc; blind = λ _ _ _ _ _. (refl, refl, refl); goes = λ _. inr (inr refl) }
+facts (Add d a b) = record { unnamed = unnamed_three d a b; lacking = λ _ _ _ _ _. refl; unsummed = λ h _ _. cc; blind = λ _ _ _ _. (refl, refl, refl); goes = λ _. inr (inr refl) }
+facts (Sub d a b) = record { unnamed = unnamed_three d a b; lacking = λ _ _ _ _ _. refl; unsummed = λ h _ _. cc; blind = λ _ _ _ _. (refl, refl, refl); goes = λ _. inr (inr refl) }
 facts (Addi d a n) = record {
   unnamed = λ h. let x = two d a h in (x.0, x.1, refl);
   lacking = λ _ _ _ _ _. refl;
   unsummed = λ h _ _. cc;
-  blind = λ _ _ _ _ _. (refl, refl, refl);
+  blind = λ _ _ _ _. (refl, refl, refl);
   goes = λ _. inr (inr refl);
 }
 facts (Register f d b) = record {
   unnamed = λ h. let x = two d b h in (x.0, x.0, x.1);
   lacking = λ _ p g h k. ap (λ x. carries f && not x) (sums_alike g h k);
   unsummed = (register_facts f).unsummed;
-  blind = λ _ g x y k. let e = (register_facts f).blind g x y k in (ap (λ v. effect.Put v (following g.counter)) e.0, e.1, refl);
+  blind = λ _ g x y. let e = (register_facts f).blind g x y in (ap (λ v. effect.Put v (following g.counter)) e.0, e.1, refl);
   goes = λ _. inr (inr refl);
 }
 facts (Immediate f d n) = record {
@@ -150,20 +147,20 @@ facts (Immediate f d n) = record {
       λ x. ap (λ e. (carries_immediate f && not (is_sum x)) || (e && not (is_shift x))) none in
       by g ∙ ap (λ x. (carries_immediate f && not x) || false) (sums_alike g h k) ∙ sym (by h);
   unsummed = (immediate_facts f).unsummed;
-  blind = λ plain g x y k. let e = (immediate_facts f).blind plain g x y k in (ap (λ v. effect.Put v (following g.counter)) e.0, e.1, refl);
+  blind = λ plain g x y. let e = (immediate_facts f).blind plain g x y in (ap (λ v. effect.Put v (following g.counter)) e.0, e.1, refl);
   goes = λ _. inr (inr refl);
 }
-facts (Lw d a n) = record { unnamed = λ h. let x = two d a h in (x.0, x.1, refl); lacking = λ _ _ _ _ _. refl; unsummed = λ _ _ _. refl; blind = λ _ _ _ _ _. (refl, refl, refl); goes = λ _. tt }
-facts (Lb d a n) = record { unnamed = λ h. let x = two d a h in (x.0, x.1, refl); lacking = λ _ _ _ _ _. refl; unsummed = λ _ _ _. refl; blind = λ _ _ _ _ _. (refl, refl, refl); goes = λ _. tt }
-facts (Sw d a n) = record { unnamed = λ h. let x = two d a h in (refl, x.1, x.0); lacking = λ _ _ _ _ _. refl; unsummed = λ _ _ _. refl; blind = λ _ _ _ _ _. (refl, refl, refl); goes = λ _. tt }
-facts (Sb d a n) = record { unnamed = λ h. let x = two d a h in (refl, x.1, x.0); lacking = λ _ _ _ _ _. refl; unsummed = λ _ _ _. refl; blind = λ _ _ _ _ _. (refl, refl, refl); goes = λ _. tt }
-facts (Jal d a n) = record { unnamed = λ h. let x = two d a h in (x.0, x.1, refl); lacking = λ _ _ _ _ _. refl; unsummed = λ _ _ _. refl; blind = λ _ _ _ _ _. (refl, refl, refl); goes = λ _. inl refl }
+facts (Lw d a n) = record { unnamed = λ h. let x = two d a h in (x.0, x.1, refl); lacking = λ _ _ _ _ _. refl; unsummed = λ _ _ _. refl; blind = λ _ _ _ _. (refl, refl, refl); goes = λ _. tt }
+facts (Lb d a n) = record { unnamed = λ h. let x = two d a h in (x.0, x.1, refl); lacking = λ _ _ _ _ _. refl; unsummed = λ _ _ _. refl; blind = λ _ _ _ _. (refl, refl, refl); goes = λ _. tt }
+facts (Sw d a n) = record { unnamed = λ h. let x = two d a h in (refl, x.1, x.0); lacking = λ _ _ _ _ _. refl; unsummed = λ _ _ _. refl; blind = λ _ _ _ _. (refl, refl, refl); goes = λ _. tt }
+facts (Sb d a n) = record { unnamed = λ h. let x = two d a h in (refl, x.1, x.0); lacking = λ _ _ _ _ _. refl; unsummed = λ _ _ _. refl; blind = λ _ _ _ _. (refl, refl, refl); goes = λ _. tt }
+facts (Jal d a n) = record { unnamed = λ h. let x = two d a h in (x.0, x.1, refl); lacking = λ _ _ _ _ _. refl; unsummed = λ _ _ _. refl; blind = λ _ _ _ _. (refl, refl, refl); goes = λ _. inl refl }
 facts (Branch c n) = record {
   unnamed = λ _. (refl, refl, refl);
   lacking = λ _ p g h k. ap (λ x. conditional c && (not x || is_some p)) (sums_alike g h k);
   unsummed = λ _ _ _. refl;
-  blind = λ _ _ x y k. let a = fore_alike first_of (λ _. refl) x y k in let b = fore_alike second_of (λ _. refl) x y k in (cc, refl, refl);
+  blind = λ _ _ _ _. (refl, refl, refl);
   goes = λ _. inr (inl refl);
 }
-facts (Call n) = record { unnamed = λ _. (refl, refl, refl); lacking = λ _ _ _ _ _. refl; unsummed = λ _ _ _. refl; blind = λ _ _ _ _ _. (refl, refl, refl); goes = λ _. inl refl }
-facts (Imm n) = record { unnamed = λ _. (refl, refl, refl); lacking = λ _ _ _ _ _. refl; unsummed = λ h _ _. cc; blind = λ _ _ _ _ _. (refl, refl, refl); goes = λ _. refl }
+facts (Call n) = record { unnamed = λ _. (refl, refl, refl); lacking = λ _ _ _ _ _. refl; unsummed = λ _ _ _. refl; blind = λ _ _ _ _. (refl, refl, refl); goes = λ _. inl refl }
+facts (Imm n) = record { unnamed = λ _. (refl, refl, refl); lacking = λ _ _ _ _ _. refl; unsummed = λ h _ _. cc; blind = λ _ _ _ _. (refl, refl, refl); goes = λ _. refl }

@@ -12,7 +12,7 @@ use Rattle.operations.specs.declared.values.Effect.{Effect}
 use Rattle.operations.specs.declared.values.Effect.TheVariants as effect
 use Rattle.operations.specs.Arithmetic.{following}
 use Rattle.operations.specs.Conditions.{holds}
-use Rattle.operations.specs.Forerunners.{lacks, first_of, second_of}
+use Rattle.operations.specs.Forerunners.{lacks}
 use Rattle.operations.specs.Operations as operation
 use Rattle.machine.specs.declared.states.Side.{Side}
 use Rattle.machine.specs.declared.states.State.{State}
@@ -109,7 +109,7 @@ even_next (Lb d a n) g h = tt
 even_next (Sw d a n) g h = tt
 even_next (Sb d a n) g h = tt
 even_next (Jal d a n) g h = (omega arith, omega arith)
-even_next (Branch c n) g h = branched_even (holds c (first_of g.forerunner) (second_of g.forerunner)) g.counter n h
+even_next (Branch c n) g h = branched_even (holds c g.a g.b) g.counter n h
 even_next (Call n) g h = (omega arith, omega arith)
 even_next (Imm n) g h = tt
 

@@ -39,14 +39,17 @@ abbrev pub immediate_by : Option ImmediateField → Option ℕ → ℕ
 immediate_by None prefix = 0
 immediate_by (Some field) prefix = formed field prefix
 
--- what an instruction works with: the first operand, the register judged for a hazard as the second, the immediate, the counter, the forerunner
+-- what an instruction works with: the first operand, the register judged for a hazard as the second, the immediate, the counter, the forerunner's
 abbrev pub gathered : List ℕ → ℕ → Option ℕ → Forerunner → Instruction → Operands
 gathered registers counter prefix f i = record {
   left = slice_index registers (base i);
   right = slice_index registers (late i);
   immediate = immediate_by (immediate_field i) prefix;
   counter = counter;
-  forerunner = f;
+  carry = carry_of f;
+  a = first_of f;
+  b = second_of f;
+  bit = bit_of f;
 }
 
 -- a right shift by one bit that keeps the sign
@@ -59,7 +62,7 @@ halved_under x bit = x / 2 + cond bit 32768 0
 
 -- where a branch leads: to its target where its condition holds, else to the next word
 abbrev pub branched : Condition → ℕ → Operands → ℕ
-branched c n o = cond (holds c (first_of o.forerunner) (second_of o.forerunner)) (branch_target o.counter n) (following o.counter)
+branched c n o = cond (holds c o.a o.b) (branch_target o.counter n) (following o.counter)
 
 -- the results of opcode 3's functions
 abbrev pub register_value : RegisterFunction → Operands → ℕ
@@ -67,8 +70,8 @@ register_value And o = bit_and o.left o.right
 register_value Or o = bit_or o.left o.right
 register_value Xor o = bit_xor o.left o.right
 register_value Andn o = bit_and o.left (inverted o.right)
-register_value Adc o = plus (plus o.left o.right) (one_if (carry_of o.forerunner))
-register_value Sbc o = minus (minus o.left o.right) (one_if (carry_of o.forerunner))
+register_value Adc o = plus (plus o.left o.right) (one_if o.carry)
+register_value Sbc o = minus (minus o.left o.right) (one_if o.carry)
 
 -- the results of opcode 4's functions; a shift moves by one bit, for any other count is refused
 abbrev pub immediate_value : ImmediateFunction → Operands → ℕ
@@ -76,13 +79,13 @@ immediate_value Andi o = bit_and o.left o.immediate
 immediate_value Ori o = bit_or o.left o.immediate
 immediate_value Xori o = bit_xor o.left o.immediate
 immediate_value Andni o = bit_and o.left (inverted o.immediate)
-immediate_value Adci o = plus (plus o.left o.immediate) (one_if (carry_of o.forerunner))
-immediate_value Sbci o = minus (minus o.left o.immediate) (one_if (carry_of o.forerunner))
+immediate_value Adci o = plus (plus o.left o.immediate) (one_if o.carry)
+immediate_value Sbci o = minus (minus o.left o.immediate) (one_if o.carry)
 immediate_value Srli o = o.left / 2
 immediate_value Srai o = halved o.left
 immediate_value Slli o = plus o.left o.left
-immediate_value Srxi o = halved_under o.left (bit_of o.forerunner)
-immediate_value Slxi o = plus (plus o.left o.left) (one_if (bit_of o.forerunner))
+immediate_value Srxi o = halved_under o.left o.bit
+immediate_value Slxi o = plus (plus o.left o.left) (one_if o.bit)
 
 -- what an instruction does
 abbrev pub effect_of : Instruction → Operands → Effect
@@ -126,14 +129,14 @@ highest x = Some (Shift (nat_le 32768 x))
 
 -- what opcode 3's functions leave
 abbrev pub register_leaves : RegisterFunction → Operands → Option Forerunner
-register_leaves Adc o = sum_left o.left o.right (carry_of o.forerunner)
-register_leaves Sbc o = difference_left o.left o.right (carry_of o.forerunner)
+register_leaves Adc o = sum_left o.left o.right o.carry
+register_leaves Sbc o = difference_left o.left o.right o.carry
 register_leaves _ o = Some Nothing
 
 -- what opcode 4's functions leave
 abbrev pub immediate_leaves : ImmediateFunction → Operands → Option Forerunner
-immediate_leaves Adci o = sum_left o.left o.immediate (carry_of o.forerunner)
-immediate_leaves Sbci o = difference_left o.left o.immediate (carry_of o.forerunner)
+immediate_leaves Adci o = sum_left o.left o.immediate o.carry
+immediate_leaves Sbci o = difference_left o.left o.immediate o.carry
 immediate_leaves Srli o = lowest o.left
 immediate_leaves Srai o = lowest o.left
 immediate_leaves Slli o = highest o.left

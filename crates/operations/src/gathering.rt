@@ -47,11 +47,15 @@ pub fn gather(
 ) -> Operands
     ensures { result ≡ spec.gathered registers.now counter prefix forerunner instruction }
 {
+    let (a, b) = forerunner.compared();
     Operands {
         left: register(registers, base(instruction)),
         right: register(registers, instruction.late()),
         immediate: immediate(instruction, prefix),
         counter,
-        forerunner,
+        carry: forerunner.carry(),
+        a,
+        b,
+        bit: forerunner.bit(),
     }
 }

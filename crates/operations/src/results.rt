@@ -43,8 +43,8 @@ impl Operands {
             RegisterFunction::Or => self.left | self.right,
             RegisterFunction::Xor => self.left ^ self.right,
             RegisterFunction::Andn => self.left & !self.right,
-            RegisterFunction::Adc => plus_carry(self.left, self.right, self.forerunner.carry()),
-            RegisterFunction::Sbc => minus_borrow(self.left, self.right, self.forerunner.carry()),
+            RegisterFunction::Adc => plus_carry(self.left, self.right, self.carry),
+            RegisterFunction::Sbc => minus_borrow(self.left, self.right, self.carry),
         }
     }
 
@@ -56,29 +56,20 @@ impl Operands {
             ImmediateFunction::Ori => self.left | self.immediate,
             ImmediateFunction::Xori => self.left ^ self.immediate,
             ImmediateFunction::Andni => self.left & !self.immediate,
-            ImmediateFunction::Adci => plus_carry(
-                self.left,
-                self.immediate,
-                self.forerunner.carry(),
-            ),
-            ImmediateFunction::Sbci => minus_borrow(
-                self.left,
-                self.immediate,
-                self.forerunner.carry(),
-            ),
+            ImmediateFunction::Adci => plus_carry(self.left, self.immediate, self.carry),
+            ImmediateFunction::Sbci => minus_borrow(self.left, self.immediate, self.carry),
             ImmediateFunction::Srli => self.left >> 1,
             ImmediateFunction::Srai => halved(self.left),
             ImmediateFunction::Slli => self.left.wrapping_add(self.left),
-            ImmediateFunction::Srxi => halved_under(self.left, self.forerunner.bit()),
-            ImmediateFunction::Slxi => plus_carry(self.left, self.left, self.forerunner.bit()),
+            ImmediateFunction::Srxi => halved_under(self.left, self.bit),
+            ImmediateFunction::Slxi => plus_carry(self.left, self.left, self.bit),
         }
     }
 
     fn branched(self, condition: Condition, displacement: u8) -> u16
         ensures { result ≡ spec.branched condition displacement self }
     {
-        let (a, b) = self.forerunner.compared();
-        if holds(condition, a, b) {
+        if holds(condition, self.a, self.b) {
             branch_target(self.counter, displacement)
         } else {
             self.counter.wrapping_add(2)

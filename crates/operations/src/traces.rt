@@ -44,12 +44,8 @@ impl Operands {
         ensures { result ≡ spec.register_leaves function self }
     {
         match function {
-            RegisterFunction::Adc => sum_left(self.left, self.right, self.forerunner.carry()),
-            RegisterFunction::Sbc => difference_left(
-                self.left,
-                self.right,
-                self.forerunner.carry(),
-            ),
+            RegisterFunction::Adc => sum_left(self.left, self.right, self.carry),
+            RegisterFunction::Sbc => difference_left(self.left, self.right, self.carry),
             _ => Some(Forerunner::Nothing),
         }
     }
@@ -58,12 +54,8 @@ impl Operands {
         ensures { result ≡ spec.immediate_leaves function self }
     {
         match function {
-            ImmediateFunction::Adci => sum_left(self.left, self.immediate, self.forerunner.carry()),
-            ImmediateFunction::Sbci => difference_left(
-                self.left,
-                self.immediate,
-                self.forerunner.carry(),
-            ),
+            ImmediateFunction::Adci => sum_left(self.left, self.immediate, self.carry),
+            ImmediateFunction::Sbci => difference_left(self.left, self.immediate, self.carry),
             ImmediateFunction::Srli | ImmediateFunction::Srai | ImmediateFunction::Srxi => lowest(
                 self.left,
             ),

@@ -9,14 +9,17 @@ pub enum Forerunner {
     Shift { bit: bool },
 }
 
-// All that an instruction works with: two registers, its immediate, the counter, and what the word before left.
+// All that an instruction works with: two registers, its immediate, the counter, and what the forerunner has for it.
 #[derive(Clone, Copy, PartialEq, Eq)]
 pub struct Operands {
     pub left: u16,
     pub right: u16,
     pub immediate: u16,
     pub counter: u16,
-    pub forerunner: Forerunner,
+    pub carry: bool,
+    pub a: u16,
+    pub b: u16,
+    pub bit: bool,
 }
 
 #[derive(Clone, Copy, PartialEq, Eq)]
