@@ -1,4 +1,6 @@
 // What steps and runs answer.
+ghost use Rattle.std.specs.Prelude.{◌≡◌};
+
 use crate::states::Side;
 use isa::Refusal;
 
@@ -17,8 +19,17 @@ pub struct StepRefusal {
     pub side: Side,
 }
 
+// The refusal alone, without where it happened.
+impl From<StepRefusal> for Refusal {
+    ghost from_gives = { λ refused refusal. refusal ≡ refused.refusal };
+
+    fn from(refused: StepRefusal) -> Refusal {
+        refused.refusal
+    }
+}
+
 // How many steps of each kind succeeded, and the wait of the request that was taken, or 0: takings are counted and not an Option,
-// so that tallies add up.
+// so that tallies add up. The totals of rehearsal and xr16 are wider tallies of their own, since a run's counts fit sixteen bits.
 #[derive(Clone, Copy, PartialEq, Eq, Default)]
 pub struct Tally {
     pub own: u16,

@@ -7,7 +7,7 @@ use crate::layouts::{is_io, is_odd};
 use crate::states::{Plan, Side, State};
 use isa::{Instruction, Refusal};
 use memory::{Memory, load_word};
-use operations::{Effect, Operands, gather};
+use operations::{Operands, gather};
 
 // How many of r1 to r15 differ from their copies.
 fn differing(registers: &[u16; 16], copies: &[u16; 16]) -> u8
@@ -18,6 +18,7 @@ fn differing(registers: &[u16; 16], copies: &[u16; 16]) -> u8
 }
 
 // The register that is read late is the result of the word before.
+// The assembler's own test of its slots stands in listing, which knows no core.
 fn in_hazard(late: u8, before: u8) -> bool
     ensures { result ≡ spec.hazard late before }
 {

@@ -18,7 +18,7 @@ impl ServiceRange {
     pub fn contains(self, address: u16) -> bool
         ensures { result ≡ spec.contains self address }
     {
-        self.low <= address && address < self.high
+        (self.low..self.high).contains(&address)
     }
 }
 

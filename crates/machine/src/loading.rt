@@ -33,8 +33,7 @@ impl ServiceRange {
     {
         self.low % 2 == 0
             && self.high % 2 == 0
-            && 2 <= self.low
-            && self.low <= 16
+            && matches!(self.low, 2..=16)
             && 18 <= self.high
             && self.high <= text
     }

@@ -38,6 +38,7 @@ impl<'a> Memory for FlatMemory<'a> {
         usize::from(address) < self.buffer.len()
     }
 
+    // Tested and then indexed, since after get_mut the proof did not know the bytes.
     fn store(&mut self, address: u16, value: u8) {
         if self.is_open(address) {
             self.buffer[usize::from(address)] = value;

@@ -1,5 +1,4 @@
 // What a lent buffer holds once the memory over it is gone.
-ghost use Rattle.std.specs.Prelude.{◌≡◌};
 ghost use Rattle.memory.specs.Lending.{FlatBytes, MappedBytes};
 
 use crate::flat::FlatMemory;

@@ -22,7 +22,8 @@ pub fn store_word<M: Memory>(memory: &mut M, address: u16, value: u16)
     memory.store(address.wrapping_add(1), low);
 }
 
-// Stores an image from address 0 on; what lies past the last address is not stored.
+// Stores an image from address 0 on; what lies past the last address is not stored. By enumerate, since a zip with the addresses left
+// the loop's proof open.
 pub fn store_image<M: Memory>(memory: &mut M, image: &[u8])
     ensures meaning { M.Memory.means memory.new ≡ stored_image (M.Memory.means memory.old) image.now }
     ensures lent { M.Memory.loan memory.new ≡ M.Memory.loan memory.old }
