@@ -11,9 +11,10 @@ fn base(instruction: Instruction) -> u8
     ensures { result ≡ spec.base instruction }
 {
     match instruction {
-        Instruction::Add { ra, .. } | Instruction::Sub { ra, .. } | Instruction::Addi { ra, .. } =>
-            ra,
-        Instruction::Lw { ra, .. }
+        Instruction::Add { ra, .. }
+        | Instruction::Sub { ra, .. }
+        | Instruction::Addi { ra, .. }
+        | Instruction::Lw { ra, .. }
         | Instruction::Lb { ra, .. }
         | Instruction::Sw { ra, .. }
         | Instruction::Sb { ra, .. }

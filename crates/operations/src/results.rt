@@ -35,6 +35,7 @@ fn halved_under(x: u16, bit: bool) -> u16
 }
 
 impl Operands {
+    // One function for each enum, as the two enums are the functions of two opcodes.
     fn register_value(self, function: RegisterFunction) -> u16
         ensures { result ≡ spec.register_value function self }
     {
@@ -48,6 +49,7 @@ impl Operands {
         }
     }
 
+    // The functions of the other opcode; see above.
     fn immediate_value(self, function: ImmediateFunction) -> u16
         ensures { result ≡ spec.immediate_value function self }
     {
