@@ -8,7 +8,6 @@ use crate::instructions::{Condition, ImmediateFunction, Instruction, RegisterFun
 use crate::refusals::Refusal;
 
 // The four fields of a word, from the most significant.
-#[derive(Clone, Copy, PartialEq, Eq)]
 struct Fields {
     opcode: u8,
     rd: u8,

@@ -14,8 +14,8 @@ impl Instruction {
             Instruction::Add { rd, .. }
             | Instruction::Sub { rd, .. }
             | Instruction::Addi { rd, .. }
-            | Instruction::Register { rd, .. } => rd,
-            Instruction::Immediate { rd, .. }
+            | Instruction::Register { rd, .. }
+            | Instruction::Immediate { rd, .. }
             | Instruction::Lw { rd, .. }
             | Instruction::Lb { rd, .. }
             | Instruction::Jal { rd, .. } => rd,
@@ -47,8 +47,8 @@ impl Instruction {
                 || rb == register,
             Instruction::Addi { rd, ra, .. }
             | Instruction::Lw { rd, ra, .. }
-            | Instruction::Lb { rd, ra, .. } => rd == register || ra == register,
-            Instruction::Sw { rd, ra, .. }
+            | Instruction::Lb { rd, ra, .. }
+            | Instruction::Sw { rd, ra, .. }
             | Instruction::Sb { rd, ra, .. }
             | Instruction::Jal { rd, ra, .. } => rd == register || ra == register,
             Instruction::Register { rd, rb, .. } => rd == register || rb == register,
