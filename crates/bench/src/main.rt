@@ -19,10 +19,9 @@ use std::io::{BufRead, BufReader};
 // What a line answers; nothing where it is blank or a comment.
 fn answer_to<'a>(console: &'a mut Console, line: &[u8]) -> Result<Option<Answer<'a>>, Complaint> {
     let text = std::str::from_utf8(line)?;
-    match parsing::parse(console.heap(), text)? {
-        Some(command) => Ok(Some(console.obey(command)?)),
-        None => Ok(None),
-    }
+    parsing::parse(console.heap(), text)?
+        .map(|command| console.obey(command))
+        .transpose()
 }
 
 fn respond(

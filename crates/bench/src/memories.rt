@@ -4,7 +4,7 @@ ghost use Rattle.bench.specs.declared.memories.EitherMemory.TheVariants.{Flat, M
 use memory::{FlatMemory, MappedMemory, Memory, PageTable};
 use std::alloc::{AllocError, Global};
 
-// A memory of one of the two kinds.
+// A memory of one of the two kinds: an enum and no `dyn Memory`, as what is generic over a memory asks for a type.
 #[derive(Drop)]
 pub(crate) enum EitherMemory<'a> {
     Flat(FlatMemory<'a>),

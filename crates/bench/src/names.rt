@@ -1,16 +1,18 @@
 // An instruction from its name and its fields, in the order of the word.
+ghost use Rattle.std.specs.Prelude.{◌≤◌};
+
 use crate::complaints::Complaint;
 use crate::numbers;
 use isa::{Instruction, Refusal, read};
+use std::array;
 use std::num::TryFromIntError;
 use std::str::SplitWhitespace;
 
-// The N numbers that end the line.
-fn last_numbers<const N: usize>(words: &mut SplitWhitespace<'_>) -> Result<[u32; N], Complaint> {
-    let mut numbers = [0; N];
-    for number in numbers.iter_mut() {
-        *number = numbers::number(words)?;
-    }
+// The N numbers that end the line; no instruction has more than three.
+fn last_numbers<const N: usize>(words: &mut SplitWhitespace<'_>) -> Result<[u32; N], Complaint>
+    requires { N ≤ 3 }
+{
+    let numbers = array::try_from_fn(|_| numbers::number(words))?;
     numbers::end(words)?;
     Ok(numbers)
 }
@@ -39,6 +41,7 @@ fn three_field(kind: Instruction, rd: u8, ra: u8, last: u8) -> Instruction {
         Instruction::Sw { .. } => Instruction::Sw { rd, ra, imm: last },
         Instruction::Sb { .. } => Instruction::Sb { rd, ra, imm: last },
         Instruction::Jal { .. } => Instruction::Jal { rd, ra, imm: last },
+        // The caller has matched the kinds without three fields.
         _ => kind,
     }
 }

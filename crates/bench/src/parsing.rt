@@ -46,6 +46,7 @@ fn layout(words: &mut SplitWhitespace<'_>) -> Result<Layout, Complaint> {
 }
 
 // An action of a rehearsal: `request`, `step` or `run:BUDGET`.
+// No FromStr, as the type is the histories crate's and the complaints are the grammar's.
 fn action_of(word: &str) -> Result<Action, Complaint> {
     match word {
         "request" => Ok(Action::Request),

@@ -5,7 +5,7 @@ use rehearsal::{Program, Report};
 use std::fmt;
 use text::{Answers, Refused};
 
-// A value of another crate, as the console prints it.
+// A value of another crate in the console's own format, which is why the types themselves have no such Display.
 #[derive(Clone, Copy)]
 pub(crate) struct Shown<T>(pub(crate) T);
 
