@@ -29,7 +29,7 @@ impl<'a> Addresses<'a> {
     }
 
     // A record's value; nothing where its label is not defined.
-    pub fn value_of(self, record: Record) -> Option<Value>
+    pub(crate) fn value_of(self, record: Record) -> Option<Value>
         ensures { number_in result ≡ value self.entry.base self.entry.labels.now.marks «record» }
     {
         let constant = i64::from(record.constant);
@@ -43,7 +43,7 @@ impl<'a> Addresses<'a> {
     }
 
     // The value of a record whose label was looked up before.
-    pub fn found_value(self, record: Record) -> Value
+    pub(crate) fn found_value(self, record: Record) -> Value
         ensures { result.number ≡ unwrap_or (value self.entry.base self.entry.labels.now.marks «record») (pos 0) }
     {
         self.value_of(record).unwrap_or(Value { number: 0 })

@@ -12,7 +12,7 @@ pub(crate) struct Labels {
 
 impl Labels {
     // No label is defined.
-    pub fn new() -> Labels
+    pub(crate) fn new() -> Labels
         ensures { result.marks ≡ start.labels }
     {
         Labels {
@@ -21,13 +21,13 @@ impl Labels {
     }
 
     // What a label names, where it is defined.
-    pub fn get(&self, label: u16) -> Option<Mark>
+    pub(crate) fn get(&self, label: u16) -> Option<Mark>
         ensures { result ≡ slice_index_or self.now.marks label None }
     {
         self.marks.get(usize::from(label)).copied().flatten()
     }
 
-    pub fn define(&mut self, label: u16, mark: Mark)
+    pub(crate) fn define(&mut self, label: u16, mark: Mark)
         ensures { self.new.marks ≡ slice_set self.old.marks label (Some mark) }
     {
         // Tested and then indexed: `get_mut` was tried, and the check found the proof of neither case.

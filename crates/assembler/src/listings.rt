@@ -15,7 +15,7 @@ pub(crate) struct Listing<'a> {
 }
 
 impl<'a> Listing<'a> {
-    pub fn new(bytes: &'a [u8]) -> Result<Listing<'a>, Refused>
+    pub(crate) fn new(bytes: &'a [u8]) -> Result<Listing<'a>, Refused>
         ensures ok { IfOk result (λ l. l.bytes.now ≡ bytes.now) }
         ensures err { IfErr result (λ e. (room : ℕ) → failure bytes.now room ≡ Some e) }
     {
@@ -30,7 +30,7 @@ impl<'a> Listing<'a> {
         Err(Refused { refusal, index })
     }
 
-    pub fn records(self) -> &'a [[u8; 8]]
+    pub(crate) fn records(self) -> &'a [[u8; 8]]
         ensures count { length result.now ≡ length self.entry.bytes.now / 8 }
         ensures records { HasRecords self.entry.bytes.now result.now }
     {
@@ -39,7 +39,7 @@ impl<'a> Listing<'a> {
     }
 
     // A refusal that concerns all records.
-    pub fn refused(self, refusal: Refusal) -> Refused
+    pub(crate) fn refused(self, refusal: Refusal) -> Refused
         ensures { result ≡ record { refusal = refusal; index = length self.entry.bytes.now / 8 } }
     {
         Refused {

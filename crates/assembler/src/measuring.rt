@@ -53,7 +53,7 @@ impl Measure {
     }
 
     // What a record adds where a walk has come to.
-    pub fn of(walk: Walk, item: Item, r: Record) -> Measure
+    pub(crate) fn of(walk: Walk, item: Item, r: Record) -> Measure
         ensures value { result ≡ measured item walk.place r }
         ensures bound { result.size ≤ 262144 }
     {

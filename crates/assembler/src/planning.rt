@@ -27,7 +27,7 @@ pub(crate) struct Plan {
 
 impl Plan {
     // Makes every check of the records, in order, and writes nothing. The labels are then what each of them names.
-    pub fn of(listing: Listing, room: usize, labels: &mut Labels) -> Result<Plan, Refused>
+    pub(crate) fn of(listing: Listing, room: usize, labels: &mut Labels) -> Result<Plan, Refused>
         requires { labels.old.marks ≡ start.labels }
         ensures value { result ≡ planned listing.entry.bytes.now room }
         ensures plan { IfOk result (λ p. p ≡ plan_of listing.entry.bytes.now) }

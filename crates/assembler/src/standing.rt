@@ -26,7 +26,7 @@ impl Standing {
     ghost use Rattle.assembler.specs.Found.{record_in};
 
     // The next record; nothing where its operation is not listed.
-    pub fn read(walk: Walk, bytes: &[u8; 8]) -> Option<Standing>
+    pub(crate) fn read(walk: Walk, bytes: &[u8; 8]) -> Option<Standing>
         ensures record { record_in result ≡ read_record bytes.now }
         ensures walk { IfSome result (λ s. s.walk ≡ walk) }
     {
@@ -51,7 +51,7 @@ impl Standing {
     }
 
     // Past the record.
-    pub fn next(&self) -> Walk
+    pub(crate) fn next(&self) -> Walk
         requires { self.now.walk.index < 4096 }
         ensures index { result.index ≡ self.now.walk.index + 1 }
         ensures place { result.place ≡ moved self.now.walk.place self.now.record }

@@ -14,14 +14,14 @@ pub(crate) struct Value {
 
 impl Value {
     // The value modulo 65,536.
-    pub fn bits(self) -> u16
+    pub(crate) fn bits(self) -> u16
         ensures { result ≡ bits16 self.number }
     {
         low_bits(self.number)
     }
 
     // The number that is encoded.
-    pub fn encoded(self, negated: bool) -> Value
+    pub(crate) fn encoded(self, negated: bool) -> Value
         ensures { result.number ≡ number_of negated self.number }
     {
         if negated {
@@ -34,7 +34,7 @@ impl Value {
     }
 
     // How far the value, as a target, is from the second word after an address.
-    pub fn distance_from(self, at: u32) -> i64
+    pub(crate) fn distance_from(self, at: u32) -> i64
         ensures { result ≡ distance at self.number }
     {
         self.number - (i64::from(at) + 4)

@@ -20,7 +20,7 @@ pub(crate) struct Walk {
 
 impl Walk {
     // A listing begins in text, at address 0.
-    pub fn start() -> Walk
+    pub(crate) fn start() -> Walk
         ensures index { result.index ≡ 0 }
         ensures place { result.place ≡ start.place }
     {
@@ -31,7 +31,7 @@ impl Walk {
     }
 
     // Past a record that adds nothing.
-    pub fn skip(self) -> Walk
+    pub(crate) fn skip(self) -> Walk
         requires { self.index < 4096 }
         ensures index { result.index ≡ self.index + 1 }
         ensures place { result.place ≡ self.place }
@@ -43,7 +43,7 @@ impl Walk {
     }
 
     // Where the section ends.
-    pub fn end(self) -> usize
+    pub(crate) fn end(self) -> usize
         ensures { result ≡ here self.place }
     {
         match self.place.section {
@@ -53,7 +53,7 @@ impl Walk {
     }
 
     // What a label here names.
-    pub fn mark(self) -> Mark
+    pub(crate) fn mark(self) -> Mark
         ensures { result ≡ mark_at self.place }
     {
         Mark {
@@ -63,7 +63,7 @@ impl Walk {
     }
 
     // A refusal of the next record.
-    pub fn refused(self, refusal: Refusal) -> Refused
+    pub(crate) fn refused(self, refusal: Refusal) -> Refused
         ensures { result ≡ record { refusal = refusal; index = self.index } }
     {
         Refused {
@@ -73,7 +73,7 @@ impl Walk {
     }
 
     // What a check of the next record says, with the record's index.
-    pub fn indexed(self, checked: Result<(), Refusal>) -> Result<(), Refused>
+    pub(crate) fn indexed(self, checked: Result<(), Refusal>) -> Result<(), Refused>
         ensures { result_err result ≡ refused_at self.index (result_err checked) }
     {
         checked.map_err(|refusal| self.refused(refusal))

@@ -3,9 +3,6 @@ use histories::Action;
 use isa::Instruction;
 use machine::{Layout, ServiceRange};
 
-// The largest image that the assembler makes: the size of the output buffer where none is given.
-pub(crate) const LARGEST_IMAGE: usize = 65280;
-
 #[derive(Drop)]
 pub(crate) enum Command {
     Read(u16),

@@ -1,9 +1,9 @@
 // The state of the console, and what each command does to it.
 use crate::answers::Answer;
-use crate::commands::{Command, LARGEST_IMAGE};
+use crate::commands::Command;
 use crate::complaints::Complaint;
 use crate::memories::Buffer;
-use assembler::assemble;
+use assembler::{LARGEST_IMAGE, assemble};
 use histories::Action;
 use isa::Refusal;
 use machine::{Core, Layout, ServiceRange};

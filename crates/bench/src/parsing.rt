@@ -1,8 +1,9 @@
 // The grammar of the console: a line read as a command.
-use crate::commands::{Command, LARGEST_IMAGE};
+use crate::commands::Command;
 use crate::complaints::Complaint;
 use crate::names;
 use crate::numbers::{bytes, end, number, number_of, word};
+use assembler::LARGEST_IMAGE;
 use histories::Action;
 use machine::{Layout, ServiceRange};
 use std::alloc::Global;
