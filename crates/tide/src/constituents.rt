@@ -1,4 +1,5 @@
 // The tidal constituents of the display, and the height that each adds.
+
 // How many constituents are summed.
 pub(crate) const COUNT: usize = 30;
 

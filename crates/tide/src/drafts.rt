@@ -1,4 +1,4 @@
-// A listing that is written record by record.
+// A listing that is written record by record; each builder names the fields that the display's program uses.
 use listing::{Operation, Record};
 use std::alloc::Global;
 

@@ -49,7 +49,7 @@ fn high_half(phase: u32) -> u16 {
     (phase >> 16) as u16
 }
 
-// Steps until the counter is at an address.
+// Steps until the counter is at an address; core and memory stand apart, as in the core's own calls.
 fn step_to<M: Memory>(core: &mut Core, memory: &mut M, address: u16) {
     for _ in 0..u16::MAX {
         if core.counter() == address {

@@ -34,7 +34,7 @@ pub(crate) struct Findings {
 // Two requests are tried before each two of so many own steps.
 const PAIRED_PLACES: u16 = 100;
 
-// Steps up to and with the first turn of the tide's last loop, and counts the steps.
+// Steps up to and with the first turn of the tide's last loop, and counts the steps; core and memory stand apart, as in the core's own calls.
 fn count_own<M: Memory>(core: &mut Core, memory: &mut M) -> anyhow::Result<u16> {
     for own in 1..=u16::MAX {
         let before = core.counter();
@@ -114,6 +114,7 @@ impl Findings {
 }
 
 // One request before each own step in turn, and the wait at each place.
+// The workshop is changed and the tide is only compared with, so they stay two parameters.
 pub(crate) fn place_one(
     heap: Global,
     workshop: &mut Workshop,

@@ -72,7 +72,7 @@ pub(crate) fn print_tide(rt: &HostRuntime, tide: &Tide, mapped: &Tide) -> anyhow
     Ok(())
 }
 
-// The phases after the tide, five to a line.
+// The phases after the tide, five to a line: COUNT is a multiple of five, so the last line is full.
 pub(crate) fn print_phases(rt: &HostRuntime, workshop: &mut Workshop) -> anyhow::Result<()> {
     let constituents = constituents();
     let phases = workshop.phases();

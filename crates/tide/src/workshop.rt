@@ -25,7 +25,14 @@ struct Assembled {
     listing: Vec<u8>,
     image: Vec<u8>,
     answers: Answers,
+    // The text length once more, as the core takes it.
     text: u16,
+}
+
+// The bytes of a flat memory.
+#[derive(Drop)]
+struct FlatBytes {
+    bytes: Vec<u8>,
 }
 
 // The frames of a mapped memory, and its table.
@@ -38,7 +45,7 @@ struct Frames {
 #[derive(Drop)]
 pub(crate) struct Workshop {
     program: Assembled,
-    flat: Vec<u8>,
+    flat: FlatBytes,
     frames: Frames,
 }
 
@@ -62,6 +69,18 @@ impl Assembled {
             bytes: self.image.as_slice(),
             text: self.text,
         }
+    }
+}
+
+impl FlatBytes {
+    fn new(heap: Global) -> anyhow::Result<FlatBytes> {
+        Ok(FlatBytes {
+            bytes: vec![in heap; 0; 0x1_0000]?,
+        })
+    }
+
+    fn memory(&mut self) -> FlatMemory<'_> {
+        FlatMemory::new(self.bytes.as_mut_slice())
     }
 }
 
@@ -96,7 +115,7 @@ impl Workshop {
     pub(crate) fn new(heap: Global, listing: Vec<u8>) -> anyhow::Result<Workshop> {
         Ok(Workshop {
             program: Assembled::new(heap, listing)?,
-            flat: vec![in heap; 0; 0x1_0000]?,
+            flat: FlatBytes::new(heap)?,
             frames: Frames::new(heap)?,
         })
     }
@@ -112,9 +131,7 @@ impl Workshop {
 
     // Whether the two memories have the same bytes and marks.
     pub(crate) fn memories_agree(&mut self) -> bool {
-        let flat = FlatMemory::new(self.flat.as_mut_slice());
-        let mapped = self.frames.memory();
-        agree(&flat, &mapped)
+        agree(&self.flat.memory(), &self.frames.memory())
     }
 
     // How many words of the program text would let a request leave a mark.
@@ -131,28 +148,24 @@ impl Workshop {
 
     // One tide undisturbed, in flat memory.
     pub(crate) fn run_flat(&mut self) -> anyhow::Result<Tide> {
-        let mut memory = FlatMemory::new(self.flat.as_mut_slice());
-        placings::measure(&mut memory, self.program.image())
+        placings::measure(&mut self.flat.memory(), self.program.image())
     }
 
     // One tide undisturbed, in mapped memory.
     pub(crate) fn run_mapped(&mut self) -> anyhow::Result<Tide> {
-        let mut memory = self.frames.memory();
-        placings::measure(&mut memory, self.program.image())
+        placings::measure(&mut self.frames.memory(), self.program.image())
     }
 
     // Rehearses a list of actions in flat memory, beside a twin in mapped memory.
     pub(crate) fn rehearse(&mut self, actions: &[Action]) -> anyhow::Result<Report>
         ensures bounded { IfOk result (λ report. report.totals.wait ≤ report.limit) }
     {
-        let mut memory = FlatMemory::new(self.flat.as_mut_slice());
-        let mut twin = self.frames.memory();
         let report = rehearse(
             self.program.listing.as_slice(),
             self.program.image.as_mut_slice(),
             SERVICE,
-            &mut memory,
-            &mut twin,
+            &mut self.flat.memory(),
+            &mut self.frames.memory(),
             actions,
         )
         .map_err(reason)?;
@@ -167,31 +180,26 @@ impl Workshop {
             bytes: by_hand.as_slice(),
             text: self.program.text,
         };
-        let mut memory = FlatMemory::new(self.flat.as_mut_slice());
-        faults::run_unprefixed(&mut memory, image, address, steps)
+        faults::run_unprefixed(&mut self.flat.memory(), image, address, steps)
     }
 
     // The program with a request, until a step is refused.
     pub(crate) fn run_unkept(&mut self) -> anyhow::Result<Unkept> {
-        let mut memory = FlatMemory::new(self.flat.as_mut_slice());
-        faults::run_unkept(&mut memory, self.program.image())
+        faults::run_unkept(&mut self.flat.memory(), self.program.image())
     }
 
     // The heights that flat memory holds now.
     pub(crate) fn curve(&mut self) -> Curve {
-        let memory = FlatMemory::new(self.flat.as_mut_slice());
-        self.program.image().curve(&memory)
+        self.program.image().curve(&self.flat.memory())
     }
 
     // The ticks that the service has counted in flat memory.
     pub(crate) fn ticks(&mut self) -> u16 {
-        let memory = FlatMemory::new(self.flat.as_mut_slice());
-        load_word(&memory, TICKS)
+        load_word(&self.flat.memory(), TICKS)
     }
 
     // The phases that flat memory holds now.
     pub(crate) fn phases(&mut self) -> [u32; COUNT] {
-        let memory = FlatMemory::new(self.flat.as_mut_slice());
-        self.program.image().phases(&memory)
+        self.program.image().phases(&self.flat.memory())
     }
 }
