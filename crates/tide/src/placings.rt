@@ -4,6 +4,7 @@ ghost use Rattle.std.specs.Prelude.{◌≤◌};
 use crate::images::{Curve, Image};
 use crate::workshop::Workshop;
 use histories::Action;
+use isa::Refusal;
 use machine::{Core, Side, Step};
 use memory::Memory;
 use rehearsal::{Program, Report};
@@ -38,7 +39,7 @@ const PAIRED_PLACES: u16 = 100;
 fn count_own<M: Memory>(core: &mut Core, memory: &mut M) -> anyhow::Result<u16> {
     for own in 1..=u16::MAX {
         let before = core.counter();
-        core.step(memory).map_err(|refused| refused.refusal)?;
+        core.step(memory).map_err(Refusal::from)?;
         if core.counter() == before {
             return Ok(own);
         }

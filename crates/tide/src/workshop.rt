@@ -7,17 +7,14 @@ use crate::images::{Curve, Image};
 use crate::placings::Tide;
 use crate::programs::{SERVICE, TICKS};
 use crate::{faults, placings};
-use assembler::assemble;
+use assembler::{LARGEST_IMAGE, assemble};
 use histories::{Action, leaves_no_mark};
 use isa::Refusal;
 use memory::{FlatMemory, MappedMemory, PageTable, agree, load_word};
-use rehearsal::{Obstacle, Report, rehearse};
+use rehearsal::{Report, rehearse};
 use std::alloc::Global;
 use std::array;
 use text::Answers;
-
-// The largest image that the assembler makes.
-pub(crate) const LARGEST_IMAGE: usize = 65280;
 
 // A listing with its image, and what the assembler answered.
 #[derive(Drop)]
@@ -52,9 +49,7 @@ pub(crate) struct Workshop {
 impl Assembled {
     fn new(heap: Global, listing: Vec<u8>) -> anyhow::Result<Assembled> {
         let mut image = vec![in heap; 0; LARGEST_IMAGE]?;
-        let answers = assemble(listing.as_slice(), image.as_mut_slice()).map_err(
-            |refused| refused.refusal,
-        )?;
+        let answers = assemble(listing.as_slice(), image.as_mut_slice()).map_err(Refusal::from)?;
         image.truncate(answers.image);
         Ok(Assembled {
             listing,
@@ -99,14 +94,6 @@ impl Frames {
 
     fn memory(&mut self) -> MappedMemory<'_> {
         MappedMemory::new(self.pages, self.bytes.as_mut_slice())
-    }
-}
-
-// The refusal behind an obstacle.
-fn reason(obstacle: Obstacle) -> Refusal {
-    match obstacle {
-        Obstacle::Assembly(refused) => refused.refusal,
-        Obstacle::Loading(refusal) | Obstacle::TwinLoading(refusal) => refusal,
     }
 }
 
@@ -168,7 +155,7 @@ impl Workshop {
             &mut self.frames.memory(),
             actions,
         )
-        .map_err(reason)?;
+        .map_err(Refusal::from)?;
         Ok(report)
     }
 
