@@ -1,4 +1,5 @@
-// What each operation leaves for the next word.
+// What each operation leaves for the next word. Each function here answers an arm of `leaves` as it stands, an Option: only imm leaves
+// none, and `Some` would otherwise stand in each arm.
 ghost use Rattle.std.specs.Prelude.{◌≡◌};
 ghost use Rattle.operations.specs.Operations as spec;
 
