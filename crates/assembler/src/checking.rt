@@ -87,7 +87,8 @@ pub(crate) fn check_values(listing: Listing, addresses: Addresses) -> Result<(),
                 walk.indexed(standing.check_value(addresses))?;
                 walk = standing.next();
             }
-            // Never taken after the first pass. One walk with a closure for both passes was not tried: a closure that changes what it captures leaves the proof without its result.
+            // Never taken after the first pass. The writing goes through the records likewise: in one walk with a closure, what each
+            // of the two changes would be handed in and out, and the loop is no shorter.
             None => walk = walk.skip(),
         }
     }

@@ -88,7 +88,7 @@ pub(crate) fn write_sections(
                 }
                 walk = standing.next();
             }
-            // Never taken after the first pass. One walk with a closure for both passes was not tried: a closure that changes what it captures leaves the proof without its result.
+            // Never taken after the first pass. The checking goes through the records likewise; see there.
             None => walk = walk.skip(),
         }
     }
