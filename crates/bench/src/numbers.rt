@@ -13,10 +13,9 @@ pub(crate) fn word<'a>(words: &mut SplitWhitespace<'a>) -> Result<&'a str, Compl
 
 // Nothing more stands on the line.
 pub(crate) fn end(words: &mut SplitWhitespace<'_>) -> Result<(), Complaint> {
-    match words.next() {
-        None => Ok(()),
-        Some(_) => Err(Complaint::ExtraArgument),
-    }
+    words
+        .next()
+        .map_or(Ok(()), |_| Err(Complaint::ExtraArgument))
 }
 
 // A word as a number that fits its type: decimal, or hexadecimal after 0x, without a sign.

@@ -39,10 +39,7 @@ impl Slot {
     fn is_carrying(self) -> bool
         ensures { result ≡ slot_carrying self }
     {
-        match self {
-            Slot::Word(i) => takes_carry(i),
-            _ => false,
-        }
+        matches!(self, Slot::Word(i) if takes_carry(i))
     }
 
     // Whether the word is in hazard after a word with that result. The core's own test stands in machine, which knows no slots.

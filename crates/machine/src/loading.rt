@@ -40,6 +40,7 @@ impl ServiceRange {
 }
 
 impl Layout {
+    // The limit of an image is the assembler's too, which stands apart from the core.
     fn accepts(self, size: usize) -> bool
         ensures { result ≡ spec.fits self size }
     {

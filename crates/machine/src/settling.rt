@@ -52,6 +52,7 @@ fn next_prefix(effect: Effect) -> Option<u16>
     }
 }
 
+// Tested and then indexed, as a memory's byte is.
 #[tactic(auto, using(std::proofs::lemmas::List::set_past, std::proofs::lemmas::Bool::Decides::nat_tests))]
 fn write(registers: &mut [u16; 16], number: u8, value: u16)
     ensures { registers.new ≡ spec.written registers.old number value }

@@ -40,6 +40,7 @@ impl<'a> Memory for MappedMemory<'a> {
         self.table.is_writable(address) && self.table.place(address) < self.buffer.len()
     }
 
+    // Tested and then indexed, as in flat memory.
     fn store(&mut self, address: u16, value: u8) {
         if self.is_open(address) {
             let place = self.table.place(address);

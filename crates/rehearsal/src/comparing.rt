@@ -10,7 +10,7 @@ use crate::reports::Program;
 use machine::{Core, Step, StepRefusal};
 use memory::Memory;
 
-// All registers but r14 are the same.
+// All registers but r14 are the same, which is no derived equality.
 fn same_registers(core: &Core, twin: &Core) -> bool
     ensures { Decides result ((k : ℕ) → k < 16 → (k ≢ 14) → slice_index core.now.state.registers k ≡ slice_index twin.now.state.registers k) }
 {
@@ -33,7 +33,7 @@ impl<M: Memory, N: Memory> Pair<'_, '_, M, N> {
             || self.first.memory.read(address) == self.twin.memory.read(address)
     }
 
-    // All memory outside the service range is the same.
+    // All memory outside the service range is the same, which is no derived equality.
     fn same_memory(&self) -> bool
         ensures { Decides result ((a : ℕ) → a < 65536 → inside self.now.first.core.state.layout a ≡ false
             → (M.Memory.means self.now.first.memory.now).byte a ≡ (N.Memory.means self.now.twin.memory.now).byte a) }

@@ -6,7 +6,8 @@ use isa::Refusal;
 use machine::{Step, StepRefusal};
 use text::Refused;
 
-// The steps that a list of actions made, by kind, and the longest wait of a request that was taken, or 0.
+// The steps that a list of actions made, by kind, and the longest wait of a request that was taken, or 0. Takings are counted, so that
+// totals add up. Wider than a run's tally, since these counts must not overflow.
 #[derive(Clone, Copy, Default)]
 pub struct Totals {
     pub own: u128,
@@ -16,7 +17,7 @@ pub struct Totals {
 }
 
 // How the two program states compare: they are looked at only where no service is open.
-#[derive(Clone, Copy)]
+#[derive(Clone, Copy, PartialEq, Eq)]
 pub enum Program {
     Serving,
     Same,

@@ -18,7 +18,7 @@ pub struct Mark {
     pub offset: u32,
 }
 
-// What each of all labels that there can be names: an array, since the calls take no heap.
+// What each of all labels that there can be names: an array, as the assembler's labels are.
 // Only definitions and proofs use it: the code keeps a walk and labels.
 #[derive(Clone, Copy, PartialEq, Eq)]
 pub struct Layout {

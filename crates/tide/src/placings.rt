@@ -93,7 +93,7 @@ impl Findings {
         let totals = report.totals;
         let counted = totals.own == u128::from(tide.own)
             && totals.takings == u128::from(workshop.ticks());
-        let alike = report.kept && matches!(report.program, Program::Same) && goes_on_alike(report);
+        let alike = report.kept && report.program == Program::Same && goes_on_alike(report);
         let unmarked = counted && alike && workshop.curve() == tide.curve;
         let refused = requests.saturating_sub(totals.takings);
         *self = Findings {

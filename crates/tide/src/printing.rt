@@ -77,11 +77,7 @@ pub(crate) fn print_phases(rt: &HostRuntime, workshop: &mut Workshop) -> anyhow:
     let constituents = constituents();
     let phases = workshop.phases();
     let expected = constituents.map(|constituent| constituent.phase(HEIGHTS as u32));
-    let right = phases
-        .iter()
-        .zip(&expected)
-        .filter(|(phase, sum)| phase == sum)
-        .count();
+    let right = COUNT.saturating_sub(differing(&phases, &expected));
     println!(rt; "Phases after the tide, their two halves joined")?;
     for (number, (constituent, phase)) in constituents.iter().zip(&phases).enumerate() {
         let end = if number % 5 == 4 { "\n" } else { "  " };
@@ -113,12 +109,12 @@ impl fmt::Display for Findings {
     }
 }
 
-// How many heights of two curves differ.
-fn differing(first: &Curve, second: &Curve) -> usize {
+// In how many places two lists differ.
+fn differing<T: PartialEq>(first: &[T], second: &[T]) -> usize {
     first
         .iter()
         .zip(second)
-        .filter(|(height, other)| height != other)
+        .filter(|(value, other)| value != other)
         .count()
 }
 

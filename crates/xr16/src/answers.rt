@@ -1,4 +1,5 @@
-// What the exported calls answer. Kinds, sides and refusals are numbers here: a C interface has no enums with values.
+// What the exported calls answer. Kinds, sides and refusals are numbers here: C fixes no size for an enum, and has none
+// with values.
 use machine::Tally;
 
 // What became of a listing: the refusal's number and its index, or the text length, the image length and the longest
@@ -46,7 +47,7 @@ pub(crate) struct Deed {
     pub fault: Option<Fault>,
 }
 
-// What a list of actions came to. Not rehearsal's totals: these counts are the C answer's, 64 bits that wrap.
+// What a list of actions came to. Not rehearsal's totals: these counts are the C answer's, 64 bits that wrap. Takings are counted, as in a tally.
 #[derive(Clone, Copy, Default)]
 pub(crate) struct Totals {
     pub own: u64,

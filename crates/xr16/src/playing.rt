@@ -51,13 +51,12 @@ fn load_and_play<M: Memory>(memory: &mut M, image: &[u8], layout: Layout, action
     ensures lent { M.Memory.loan memory.new ≡ M.Memory.loan memory.old }
 {
     let mut core = Core::new();
-    match core.load(memory, image, layout) {
-        Ok(()) => {
-            let totals = play(&mut core, memory, actions);
-            report(&core, Ok(()), totals)
-        }
-        Err(refusal) => report(&core, Err(refusal), Totals::default()),
-    }
+    let loading = core.load(memory, image, layout);
+    let totals = match loading {
+        Ok(()) => play(&mut core, memory, actions),
+        Err(_) => Totals::default(),
+    };
+    report(&core, loading, totals)
 }
 
 // Loads an image into a new core over flat memory on a lent buffer, and does a list of actions.
