@@ -1,4 +1,5 @@
 pub mod Extent
 pub mod Addresses
+pub mod Images
 pub mod Frames
 pub mod Lent

@@ -42,8 +42,8 @@ impl<'a> Memory for MappedMemory<'a> {
 
     // Tested and then indexed, as in flat memory.
     fn store(&mut self, address: u16, value: u8) {
-        if self.is_open(address) {
-            let place = self.table.place(address);
+        let place = self.table.place(address);
+        if self.table.is_writable(address) && place < self.buffer.len() {
             self.buffer[place] = value;
         }
     }

@@ -22,14 +22,14 @@ pub fn store_word<M: Memory>(memory: &mut M, address: u16, value: u16)
     memory.store(address.wrapping_add(1), low);
 }
 
-// Stores an image from address 0 on; what lies past the last address is not stored. By enumerate, since a zip with the addresses left
-// the loop's proof open.
+// Stores an image from address 0 on; what lies past the last address is not stored. By address: by enumerate and `u16::try_from` a
+// load took nearly twice the time, and a zip with the addresses left the loop's proof open.
 pub fn store_image<M: Memory>(memory: &mut M, image: &[u8])
     ensures meaning { M.Memory.means memory.new ≡ stored_image (M.Memory.means memory.old) image.now }
     ensures lent { M.Memory.loan memory.new ≡ M.Memory.loan memory.old }
 {
-    for (at, &value) in image.iter().enumerate() {
-        let Ok(address) = u16::try_from(at) else {
+    for address in 0..=u16::MAX {
+        let Some(&value) = image.get(usize::from(address)) else {
             return;
         };
         memory.store(address, value);

@@ -1,8 +1,9 @@
-use Rattle.std.proofs.Common.{◌≡◌}
+use Rattle.std.proofs.Common.{◌≡◌, ◌≤◌, length}
 use Rattle.memory.specs.Words.{stored_first}
 use Rattle.memory.proofs.storing.store_image.Given as goal
 
-abbrev pub invariant-loop-at : goal.invariant-loop-at
-invariant-loop-at g l =
-    (g.M.Memory.means l.memory ≡ stored_first (g.M.Memory.means l.initial.memory) l.image l.at)
+abbrev pub invariant-loop-address : goal.invariant-loop-address
+invariant-loop-address g l =
+    (g.M.Memory.means l.memory ≡ stored_first (g.M.Memory.means l.initial.memory) l.image l.address)
     × (g.M.Memory.loan l.memory ≡ g.M.Memory.loan l.initial.memory)
+    × (l.address ≤ length l.image)

@@ -4,11 +4,11 @@ use Rattle.memory.proofs.Extent.{meaning_ext, loan_ext}
 use Rattle.memory.proofs.Frames.{apart_kept}
 use Rattle.memory.proofs.mapped.MappedMemoryMemory.store.Goals as goal
 
-pub returns-then-is_open-clause-meaning : goal.returns-then-is_open-clause-meaning
-returns-then-is_open-clause-meaning c = meaning_ext _ _ (λ a. search rules) (λ a. search rules)
+pub returns-then-place-self-clause-meaning : goal.returns-then-place-self-clause-meaning
+returns-then-place-self-clause-meaning c = meaning_ext _ _ (λ a. search rules) (λ a. search rules)
 
-pub returns-then-is_open-clause-lent : goal.returns-then-is_open-clause-lent
-returns-then-is_open-clause-lent c =
+pub returns-then-place-self-clause-lent : goal.returns-then-place-self-clause-lent
+returns-then-place-self-clause-lent c =
     let words = c.args.self.now.table.words in
     let buffer = c.args.self.now.buffer.now in
     let small : c.args.address < 65536 = search rules in
