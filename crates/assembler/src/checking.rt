@@ -2,6 +2,7 @@
 ghost use Rattle.std.specs.Prelude.{◌≡◌, ◌/◌, length};
 ghost use Rattle.std.specs.Result.{result_err};
 ghost use Rattle.text.specs.Image.{value};
+ghost use Rattle.text.specs.Layout.{refused_at};
 ghost use Rattle.text.specs.Values.{is_target, outside, near, first_reaches, reaches, value_refusal, value_refused};
 
 use crate::addresses::Addresses;
@@ -60,16 +61,18 @@ impl Standing {
     }
 
     // Refuses a record that cannot be written with its value.
-    fn check_value(&self, addresses: Addresses) -> Result<(), Refusal>
-        ensures { result_err result ≡ value_refusal self.now.walk.place self.now.record
-            (value addresses.entry.base addresses.entry.labels.now.marks self.now.record) }
+    fn check_value(&self, addresses: Addresses) -> Result<(), Refused>
+        ensures { result_err result ≡ refused_at self.now.walk.index (value_refusal self.now.walk.place self.now.record
+            (value addresses.entry.base addresses.entry.labels.now.marks self.now.record)) }
     {
-        let value = addresses.value_of(self.record).ok_or(Refusal::Missing)?;
+        let Some(value) = addresses.value_of(self.record) else {
+            return Err(self.walk.refused(Refusal::Missing));
+        };
         if self.is_outside(value) {
-            return Err(Refusal::Value);
+            return Err(self.walk.refused(Refusal::Value));
         }
         if !self.is_reached(value) {
-            return Err(Refusal::Reach);
+            return Err(self.walk.refused(Refusal::Reach));
         }
         Ok(())
     }
@@ -84,7 +87,7 @@ pub(crate) fn check_values(listing: Listing, addresses: Addresses) -> Result<(),
     for bytes in listing.records() {
         match Standing::read(walk, bytes) {
             Some(standing) => {
-                walk.indexed(standing.check_value(addresses))?;
+                standing.check_value(addresses)?;
                 walk = standing.next();
             }
             // Never taken after the first pass. The writing goes through the records likewise: in one walk with a closure, what each

@@ -2,12 +2,11 @@
 ghost use Rattle.std.specs.Prelude.{◌≡◌, Some, None, slice_index_or, slice_set};
 ghost use Rattle.text.specs.Layout.{start};
 
-use text::Mark;
+use text::{LabelTable, Mark};
 
 #[derive(Drop)]
 pub(crate) struct Labels {
-    // An array of all labels that there can be, since the calls take no heap.
-    pub marks: [Option<Mark>; 1024],
+    pub marks: LabelTable,
 }
 
 impl Labels {

@@ -1,7 +1,7 @@
 // The first pass: where each record's bytes go, and what each label names.
 ghost use Rattle.std.specs.Prelude.{◌≡◌, None, IfOk};
 ghost use Rattle.std.specs.Result.{result_err};
-ghost use Rattle.text.specs.Layout.{start, is_label, misplaced, twice, marked_by, record_refusal};
+ghost use Rattle.text.specs.Layout.{start, is_label, misplaced, twice, marked_by, record_refusal, refused_at};
 ghost use Rattle.assembler.specs.Listings.{laid_out, unlaid};
 
 use crate::labels::Labels;
@@ -55,11 +55,12 @@ impl Standing {
     }
 
     // Lays the record out, or says why it cannot be.
-    fn lay(&self, labels: &mut Labels) -> Result<(), Refusal>
-        ensures value { result_err result ≡ record_refusal (record { place = self.now.walk.place; labels = labels.old.marks }) self.now.record }
+    fn lay(&self, labels: &mut Labels) -> Result<(), Refused>
+        ensures value { result_err result ≡ refused_at self.now.walk.index
+            (record_refusal (record { place = self.now.walk.place; labels = labels.old.marks }) self.now.record) }
         ensures after { result_err result ≡ None → labels.new.marks ≡ marked_by self.now.item self.now.walk.place labels.old.marks self.now.record }
     {
-        self.check(labels)?;
+        self.walk.indexed(self.check(labels))?;
         if self.is_label() {
             labels.define(self.record.label, self.walk.mark());
         }
@@ -76,7 +77,7 @@ pub(crate) fn lay_out(listing: Listing, labels: &mut Labels) -> Result<Walk, Ref
     let mut walk = Walk::start();
     for bytes in listing.records() {
         let standing = Standing::read(walk, bytes).ok_or(walk.refused(Refusal::Operation))?;
-        walk.indexed(standing.lay(labels))?;
+        standing.lay(labels)?;
         walk = standing.next();
     }
     Ok(walk)

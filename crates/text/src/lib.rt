@@ -9,5 +9,5 @@ mod runs;
 
 pub use examples::worked_examples;
 pub use outcomes::{Answers, Refused};
-pub use places::{Layout, Mark, Place};
+pub use places::{LabelTable, Layout, Mark, Place};
 pub use runs::longest_run;

@@ -18,10 +18,12 @@ pub struct Mark {
     pub offset: u32,
 }
 
-// What each of all labels that there can be names: an array, as the assembler's labels are.
+// What each of all labels that there can be names, where it is defined: an array, since the calls take no heap.
+pub type LabelTable = [Option<Mark>; 1024];
+
 // Only definitions and proofs use it: the code keeps a walk and labels.
 #[derive(Clone, Copy, PartialEq, Eq)]
 pub struct Layout {
     pub place: Place,
-    pub labels: [Option<Mark>; 1024],
+    pub labels: LabelTable,
 }

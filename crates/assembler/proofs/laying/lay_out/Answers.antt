@@ -7,7 +7,7 @@ use Rattle.listing.specs.Reading.{record_at}
 use Rattle.text.specs.Layout.{laid, laid_more, marked_by, layout_refusal, first_refused}
 use Rattle.assembler.specs.Found.{record_in}
 use Rattle.assembler.proofs.Steps.{refuses, passes}
-use Rattle.assembler.proofs.Passes.{lays, unrefused}
+use Rattle.assembler.proofs.Passes.{lays}
 use Rattle.assembler.proofs.laying.lay_out.Goals as goal
 
 pub loop-bytes-init : goal.loop-bytes-init
@@ -35,8 +35,8 @@ returns-in_err-standing-clause-err c =
     ∙ (λ j. Some (record { refusal = refusal.Operation; index = sym inv.index j })) ∙ ap Some (sym c.refused.ensures) ∙ cc in
     rw (p.1, p.2) (sym (refuses f e i (length l / 8) inv.none here (omega arith)))
 
-pub returns-in_err-indexed-clause-err : goal.returns-in_err-indexed-clause-err
-returns-in_err-indexed-clause-err c =
+pub returns-in_err-lay-clause-err : goal.returns-in_err-lay-clause-err
+returns-in_err-lay-clause-err c =
     let l = c.args.listing.bytes.now in
     let i = c.loop-bytes.bytes-index in
     let inv = c.loop-bytes.invariant in
@@ -48,10 +48,10 @@ returns-in_err-indexed-clause-err c =
     let at : s.walk ≡ c.loop-bytes.walk = subst (λ o. IfSome o (λ s. s.walk ≡ c.loop-bytes.walk)) got c.read.ensures.walk in
     let layout : record { place = s.walk.place; labels = c.loop-bytes.labels.marks } ≡ laid l i =
     (λ j. record { place = (at j).place; labels = c.loop-bytes.labels.marks }) ∙ inv.layout in
-    let told = lays l i c.loop-bytes.walk.index s.walk.place c.loop-bytes.labels.marks s.«record» inv.index known _ layout c.lay.ensures.value in
-    let e = c.in_err-indexed.field-0.0 in
-    let p = err_from_is_err_and c.from_residual-in_err-indexed.result c.from_residual-in_err-indexed.ensures.1 in
-    let here : f i ≡ Some e = told ∙ sym c.in_err-indexed.ensures in
+    let told = lays l i s.walk.index s.walk.place c.loop-bytes.labels.marks s.«record» (ap (λ w. w.index) at ∙ inv.index) known layout in
+    let e = c.in_err-lay.field-0.0 in
+    let p = err_from_is_err_and c.from_residual-in_err-lay.result c.from_residual-in_err-lay.ensures.1 in
+    let here : f i ≡ Some e = told ∙ sym c.in_err-lay.ensures.value in
     rw (p.1, p.2) (sym (refuses f e i (length l / 8) inv.none here (omega arith)))
 
 pub loop-bytes-preserved : goal.loop-bytes-preserved
@@ -68,9 +68,9 @@ loop-bytes-preserved c =
     let at : s.walk ≡ c.loop-bytes.walk = subst (λ o. IfSome o (λ s. s.walk ≡ c.loop-bytes.walk)) got c.read.ensures.walk in
     let layout : record { place = s.walk.place; labels = c.loop-bytes.labels.marks } ≡ laid l i =
     (λ j. record { place = (at j).place; labels = c.loop-bytes.labels.marks }) ∙ inv.layout in
-    let told = lays l i c.loop-bytes.walk.index s.walk.place c.loop-bytes.labels.marks s.«record» inv.index known _ layout c.lay.ensures.value in
-    let none : f i ≡ None = told ∙ sym c.in_ok-indexed.ensures in
-    let marks = c.lay.ensures.after (unrefused c.loop-bytes.walk.index _ (sym c.in_ok-indexed.ensures))
+    let told = lays l i s.walk.index s.walk.place c.loop-bytes.labels.marks s.«record» (ap (λ w. w.index) at ∙ inv.index) known layout in
+    let none : f i ≡ None = told ∙ sym c.in_ok-lay.ensures.value in
+    let marks = c.in_ok-lay.ensures.after refl
     ∙ ap (λ m. marked_by m s.walk.place c.loop-bytes.labels.marks s.«record») s.means in
     record {
       index = omega (arith, c.next-walk.ensures.index, ap (λ w. w.index) at);
