@@ -4,3 +4,4 @@ pub mod Prepared
 pub mod Images
 pub mod Promised
 pub mod Reporting
+pub mod Answered

@@ -66,6 +66,7 @@ impl<M: Memory, N: Memory> Pair<'_, '_, M, N> {
 }
 
 // Whether two steps answered alike: both made the same, or both were refused with the same number, address and side.
+#[tactic(auto, using(crate::proofs::Answered::same_results))]
 pub fn same_answer(first: Result<Step, StepRefusal>, second: Result<Step, StepRefusal>) -> bool
     ensures { Decides result (first ≡ second) }
 {

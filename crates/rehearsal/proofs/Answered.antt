@@ -1,4 +1,5 @@
-use Rattle.std.proofs.Common.{◌≡◌, Ok, Err, Result, sym, ap, subst}
+-- When two answers of a step are the same.
+use Rattle.std.proofs.Common.{◌≡◌, Ok, Err, Result, ap}
 use denote.Enum.Bare.{same_true, true_same}
 use Rattle.std.specs.Bool.{Decides}
 use Rattle.std.specs.Result.{result_eq}
@@ -11,7 +12,6 @@ use Rattle.machine.specs.contracts.answers.StepRefusalPartialEq.TheImpl as refus
 use Rattle.machine.specs.declared.answers.Step.{Step}
 use Rattle.machine.specs.declared.answers.Step.TheVariants as step
 use Rattle.machine.specs.declared.answers.StepRefusal.{StepRefusal}
-use Rattle.rehearsal.proofs.comparing.same_answer.Goals as goal
 
 same_steps : (a b : Step) → Decides ((steps.eq-value).it a b) (a ≡ b)
 same_steps (step.Taken m) (step.Taken n) = (λ h. ap step.Taken ((Decides-eqb m n).0 h), λ h. (Decides-eqb m n).1 (cc))
@@ -32,11 +32,8 @@ same_refusals a b = (
       (and_from _ _ ((Decides-eqb a.address b.address).1 (ap (λ x. x.address) h)) (true_same side.the_type a.side b.side (ap (λ x. x.side) h))),
 )
 
-same_results : (a b : Result Step StepRefusal) → Decides (result_eq (steps.eq-value).it (refusals.eq-value).it a b) (a ≡ b)
+pub same_results : (a b : Result Step StepRefusal) → Decides (result_eq (steps.eq-value).it (refusals.eq-value).it a b) (a ≡ b)
 same_results (Ok x) (Ok y) = (λ h. ap Ok ((same_steps x y).0 h), λ h. (same_steps x y).1 (cc))
 same_results (Ok x) (Err f) = (λ h. cc, λ h. cc)
 same_results (Err e) (Ok y) = (λ h. cc, λ h. cc)
 same_results (Err e) (Err f) = (λ h. ap Err ((same_refusals e f).0 h), λ h. (same_refusals e f).1 (cc))
-
-pub returns : goal.returns
-returns c = subst (λ q. Decides q (c.args.first ≡ c.args.second)) (sym c.eq.ensures) (same_results c.args.first c.args.second)
