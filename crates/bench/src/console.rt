@@ -2,13 +2,13 @@
 use crate::answers::Answer;
 use crate::commands::Command;
 use crate::complaints::Complaint;
-use crate::memories::Buffer;
+use crate::memories::{Buffer, EitherMemory};
 use assembler::{LARGEST_IMAGE, assemble};
 use histories::Action;
 use isa::Refusal;
 use machine::{Core, Layout, ServiceRange};
-use memory::{Memory, PageTable, agree};
-use rehearsal::{Report, rehearse};
+use memory::{Memory, PageTable};
+use rehearsal::{Obstacle, Report, rehearse};
 use std::alloc::{AllocError, Global};
 use text::Answers;
 
@@ -27,6 +27,26 @@ fn checksum<M: Memory>(memory: &M) -> u32 {
         sum.wrapping_mul(31)
             .wrapping_add(u32::from(memory.read(address)))
     })
+}
+
+// What is rehearsed.
+#[derive(Clone, Copy)]
+struct Plan<'a, 'b> {
+    listing: &'a [u8],
+    range: ServiceRange,
+    actions: &'b [Action],
+}
+
+impl Plan<'_, '_> {
+    // Over memories of two types: each pair of kinds is compiled apart, so that no access asks which kind it is.
+    fn rehearse<M: Memory, N: Memory>(
+        self,
+        image: &mut [u8],
+        memory: &mut M,
+        twin: &mut N,
+    ) -> Result<Report, Obstacle> {
+        rehearse(self.listing, image, self.range, memory, twin, self.actions)
+    }
 }
 
 impl Console {
@@ -68,9 +88,13 @@ impl Console {
         Ok(answers)
     }
 
+    // The memory's kind is asked once, and not at each byte of the image.
     fn load(&mut self, layout: Layout) -> Result<(), Refusal> {
-        let mut memory = self.buffer.memory();
-        self.core.load(&mut memory, self.image.as_slice(), layout)
+        let image = self.image.as_slice();
+        match self.buffer.memory() {
+            EitherMemory::Mapped(mut memory) => self.core.load(&mut memory, image, layout),
+            EitherMemory::Flat(mut memory) => self.core.load(&mut memory, image, layout),
+        }
     }
 
     // Rehearses the listing over a fresh memory of the current kind and size, beside a flat twin where that means the same,
@@ -79,17 +103,29 @@ impl Console {
         let mut image = vec![in self.heap; 0; LARGEST_IMAGE]?;
         let mut first = self.buffer.fresh(self.heap)?;
         let mut twin = Buffer::new(self.heap, 0x10000, None)?;
-        if !agree(&first.memory(), &twin.memory()) {
+        if !first.memory().agrees(&twin.memory()) {
             twin = self.buffer.fresh(self.heap)?;
         }
-        Ok(rehearse(
-            self.listing.as_slice(),
-            image.as_mut_slice(),
+        let plan = Plan {
+            listing: self.listing.as_slice(),
             range,
-            &mut first.memory(),
-            &mut twin.memory(),
             actions,
-        )?)
+        };
+        let image = image.as_mut_slice();
+        Ok(match (&mut first.memory(), &mut twin.memory()) {
+            (EitherMemory::Flat(memory), EitherMemory::Flat(twin)) => {
+                plan.rehearse(image, memory, twin)
+            }
+            (EitherMemory::Flat(memory), EitherMemory::Mapped(twin)) => {
+                plan.rehearse(image, memory, twin)
+            }
+            (EitherMemory::Mapped(memory), EitherMemory::Flat(twin)) => {
+                plan.rehearse(image, memory, twin)
+            }
+            (EitherMemory::Mapped(memory), EitherMemory::Mapped(twin)) => {
+                plan.rehearse(image, memory, twin)
+            }
+        }?)
     }
 
     // What a command answers; where it complains, nothing has changed.

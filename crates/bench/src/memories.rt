@@ -1,7 +1,7 @@
 // The console's memory: flat or mapped, as the last `memory` command chose.
 ghost use Rattle.bench.specs.declared.memories.EitherMemory.TheVariants.{Flat, Mapped};
 
-use memory::{FlatMemory, MappedMemory, Memory, PageTable};
+use memory::{FlatMemory, MappedMemory, Memory, PageTable, agree};
 use std::alloc::{AllocError, Global};
 
 // A memory of one of the two kinds: an enum and no `dyn Memory`, as what is generic over a memory asks for a type.
@@ -45,6 +45,18 @@ impl<'a> Memory for EitherMemory<'a> {
         match self {
             EitherMemory::Flat(memory) => memory.store(address, value),
             EitherMemory::Mapped(memory) => memory.store(address, value),
+        }
+    }
+}
+
+impl EitherMemory<'_> {
+    // Whether it has the bytes and the marks of another. The kinds are asked once, and not at each address.
+    pub(crate) fn agrees(&self, other: &EitherMemory<'_>) -> bool {
+        match (self, other) {
+            (EitherMemory::Flat(first), EitherMemory::Flat(second)) => agree(first, second),
+            (EitherMemory::Flat(first), EitherMemory::Mapped(second)) => agree(first, second),
+            (EitherMemory::Mapped(first), EitherMemory::Flat(second)) => agree(first, second),
+            (EitherMemory::Mapped(first), EitherMemory::Mapped(second)) => agree(first, second),
         }
     }
 }

@@ -1,7 +1,7 @@
 // How the values of the crates below are printed.
 use isa::Instruction;
 use machine::{Run, Side, Step, StepRefusal};
-use rehearsal::{Program, Report};
+use rehearsal::{Program, Report, same_answer};
 use std::fmt;
 use text::{Answers, Refused};
 
@@ -106,7 +106,7 @@ fn next_name(report: Report) -> &'static str {
     match report.next {
         Ok(Step::Taken(_)) => "taken",
         Ok(Step::Made(Side::Service)) => "service",
-        next if next == report.twin_next => "alike",
+        next if same_answer(next, report.twin_next) => "alike",
         _ => "different",
     }
 }

@@ -7,7 +7,7 @@ use histories::Action;
 use isa::Refusal;
 use machine::{Core, Side, Step};
 use memory::Memory;
-use rehearsal::{Program, Report};
+use rehearsal::{Program, Report, same_answer};
 use std::alloc::Global;
 
 // The own steps of one tide, up to and with the first turn of its last loop; the steps of one service; the heights.
@@ -69,7 +69,7 @@ impl Tide {
 
 // Whether the one step more was an own step that the twin's answered alike.
 fn goes_on_alike(report: &Report) -> bool {
-    report.next == Ok(Step::Made(Side::Own)) && report.next == report.twin_next
+    report.next == Ok(Step::Made(Side::Own)) && same_answer(report.next, report.twin_next)
 }
 
 impl Findings {
