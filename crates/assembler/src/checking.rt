@@ -65,6 +65,7 @@ impl Standing {
         ensures { result_err result ≡ refused_at self.now.walk.index (value_refusal self.now.walk.place self.now.record
             (value addresses.entry.base addresses.entry.labels.now.marks self.now.record)) }
     {
+        // No `ok_or` with `?`: each check here gives the record's index itself.
         let Some(value) = addresses.value_of(self.record) else {
             return Err(self.walk.refused(Refusal::Missing));
         };
